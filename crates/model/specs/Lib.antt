@@ -8,3 +8,10 @@ pub mod Good
 pub mod Tables
 pub mod Runs
 pub mod Passive
+pub mod Emit
+pub mod Condition
+pub mod Walk
+pub mod Answers
+pub mod Refusals
+pub mod Calls
+pub mod Examples

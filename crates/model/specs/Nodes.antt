@@ -54,6 +54,21 @@ kinds =
     ∷ (39 is Kind.Apply)  -- table a
     ∷ []
 
+abbrev pub opNumber : Op → ℕ
+opNumber Op.Sum = 4
+opNumber Op.Difference = 5
+opNumber Op.And = 6
+opNumber Op.Or = 7
+opNumber Op.Xor = 8
+
+abbrev pub comparisonNumber : Comparison → ℕ
+comparisonNumber Comparison.Equal = 17
+comparisonNumber Comparison.Less = 18
+
+abbrev pub connectiveNumber : Connective → ℕ
+connectiveNumber Connective.And = 20
+connectiveNumber Connective.Or = 21
+
 unfoldable pub kindIn : List Numbered → ℕ → Kind
 kindIn [] n = Kind.Unknown
 kindIn (k ∷ ks) n = if eqb n (k .number) then k .kind else kindIn ks n

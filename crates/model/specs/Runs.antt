@@ -69,6 +69,13 @@ noApply t s = passed s
 abbrev pub runTable : List ℕ → List ℕ → ℕ → State → Outcome
 runTable p r t s = run (widths p) noApply (called p (callOf p r t (hit p r (s .packet) t))) s
 
+-- the widths of the packet's values, and the state that a run starts from
+abbrev pub packetWidths : List ℕ → List ℕ
+packetWidths p = widths p
+
+abbrev pub start : List ℕ → List ℕ → List ℕ → State
+start p packet choices = state packet choices 0
+
 -- the run of a pipeline with its rules
 unfoldable pub pipelineRun : List ℕ → List ℕ → List ℕ → List ℕ → Outcome
-pipelineRun p r packet choices = run (widths p) (runTable p r) (program p) (state packet choices 0)
+pipelineRun p r packet choices = run (widths p) (runTable p r) (program p) (start p packet choices)
