@@ -1,2 +1,3 @@
 -- Laws of the definitions, for the crates above.
+pub mod Compute
 pub mod Examples

@@ -55,7 +55,7 @@ unfoldable mutual
   pub emitTest : Test → Piece
   emitTest (Test.truth b) = leaf (node 16 (if b then 1 else 0) 0 0)
   emitTest (Test.compare o a b) = two (emitValue a) (emitValue b) (λ x y. node (comparisonNumber o) x y 0)
-  emitTest (Test.not-test t) = one (emitTest t) (λ x. node 19 x 0 0)
+  emitTest (Test.notTest t) = one (emitTest t) (λ x. node 19 x 0 0)
   emitTest (Test.connect o t u) = two (emitTest t) (emitTest u) (λ x y. node (connectiveNumber o) x y 0)
 
 -- one side of a join: for each equation its variable, the joined one, equal, assume, and 37 over the side so far, whose node is `side`
@@ -67,10 +67,10 @@ unfoldable pub emitEquations : List Equation → ℕ → ℕ → Side
 emitEquations [] side at = record { nodes = []; side = side }
 emitEquations (e ∷ es) side at =
     let rest = emitEquations es (at + 4) (at + 5) in
-    record
-      { nodes = node 2 (e .own) 0 0 ∷ node 2 (e .joined) 0 0 ∷ node 17 at (at + 1) 0 ∷ node 35 (at + 2) 0 0 ∷ node 37 side (at + 3) 0 ∷ rest .nodes
-      ; side = rest .side
-      }
+    record {
+      nodes = node 2 (e .own) 0 0 ∷ node 2 (e .joined) 0 0 ∷ node 17 at (at + 1) 0 ∷ node 35 (at + 2) 0 0 ∷ node 37 side (at + 3) 0 ∷ rest .nodes;
+      side = rest .side;
+    }
 
 -- both sides, then the left's equations, then the right's, then the choice
 abbrev pub sides : Piece → List Equation → Piece → List Equation → Piece

@@ -7,6 +7,7 @@ use mathlib.Core.Option.{Option, none, some}
 use lib.Dec.{eqb, ltb, leb}
 use lib.ListN.{length}
 use Rattle.model.specs.Lists.{if_then_else_, word, each}
+use Rattle.model.specs.Bytes.{bigEndian}
 use Rattle.model.specs.Blocks.{size}
 use Rattle.model.specs.declared.Group.{Group}
 
@@ -38,10 +39,6 @@ groups = Group.Field ∷ Group.Node ∷ Group.Action ∷ Group.Table ∷ Group.R
 pub record Record : Type 0 where
   pub group : Group
   pub words : List ℕ
-
--- four bytes from a place on, big-endian
-abbrev pub bigEndian : List ℕ → ℕ → ℕ
-bigEndian file at = ((word file at * 256 + word file (at + 1)) * 256 + word file (at + 2)) * 256 + word file (at + 3)
 
 -- how many bytes a record has: two for the mark, and its words
 abbrev pub bytes : Group → ℕ

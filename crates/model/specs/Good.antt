@@ -39,7 +39,7 @@ module _ (widths : List ℕ) where
     pub GoodTest : Test → Type 0
     GoodTest (Test.truth b) = Unit {0}
     GoodTest (Test.compare o a b) = GoodValue a × GoodValue b × (widthOf a ≡ widthOf b)
-    GoodTest (Test.not-test t) = GoodTest t
+    GoodTest (Test.notTest t) = GoodTest t
     GoodTest (Test.connect o t u) = GoodTest t × GoodTest u
 
   unfoldable pub Good : ℕ → Stmt → Type 0

@@ -1,5 +1,6 @@
 -- Document 01 as definitions. Read from top to bottom.
 pub mod Lists
+pub mod Bytes
 pub mod Blocks
 pub mod Files
 pub mod Nodes
@@ -14,4 +15,6 @@ pub mod Walk
 pub mod Answers
 pub mod Refusals
 pub mod Calls
+pub mod Listing
+pub mod Demands
 pub mod Examples

@@ -1,9 +1,9 @@
 -- Small words that the other files are written in. Assumes nothing: these are definitions.
 use Prim.Native.Nat.{ℕ, zero, suc, _+_}
-use mathlib.Core.Bool.{Bool, true, false, cond, _&&_}
+use mathlib.Core.Bool.{Bool, true, false, _&&_}
 use mathlib.Core.List.{List, [], _∷_, _++_}
 use mathlib.Core.Option.{Option, none, some}
-use lib.Dec.{eqb, leb}
+use lib.Dec.{eqb, ltb, leb}
 use lib.ListN.{getD, take, drop}
 
 infix 5 if_then_else_
@@ -54,10 +54,13 @@ unfoldable pub those : (ℕ → Bool) → List ℕ → List ℕ
 those test [] = []
 those test (x ∷ xs) = if test x then x ∷ those test xs else those test xs
 
--- how often x stands in the list
+-- how often x stands in the list; whether it does
 unfoldable pub times : ℕ → List ℕ → ℕ
 times x [] = 0
 times x (y ∷ ys) = if eqb x y then suc (times x ys) else times x ys
+
+abbrev pub among : ℕ → List ℕ → Bool
+among x xs = ltb 0 (times x xs)
 
 -- the word at a place, and 0 past the end
 abbrev pub word : List ℕ → ℕ → ℕ

@@ -1,13 +1,13 @@
 -- Document 01, "Nodes": the kinds, what a node holds, and its sort from the sorts of its children.
 -- Assumes nothing: these are definitions.
-use Prim.Native.Nat.{ℕ, suc, _+_, _-_}
-use mathlib.Core.Bool.{Bool, true, false, cond, not, _&&_}
+use Prim.Native.Nat.{ℕ, _+_, _-_}
+use mathlib.Core.Bool.{Bool, true, false, not, _&&_}
 use mathlib.Core.List.{List, [], _∷_, _++_}
 use lib.Dec.{eqb, ltb, leb}
 use lib.ListN.{length, getD, drop}
 use Rattle.bits.specs.Width.{fits}
 use Rattle.bits.specs.declared.Op.{Op}
-use Rattle.model.specs.Lists.{if_then_else_, within, build, times}
+use Rattle.model.specs.Lists.{if_then_else_, within, build, among}
 use Rattle.model.specs.Blocks.{Node, node}
 use Rattle.model.specs.declared.Comparison.{Comparison}
 use Rattle.model.specs.declared.Connective.{Connective}
@@ -74,10 +74,13 @@ kindIn [] n = Kind.Unknown
 kindIn (k ∷ ks) n = if eqb n (k .number) then k .kind else kindIn ks n
 
 -- Which kinds a list of nodes may hold: a pipeline all, the others neither 3, 33, 34 nor 39, and a condition no statements.
+abbrev pub pipelineOnly : ℕ → Bool
+pipelineOnly n = among n (3 ∷ 33 ∷ 34 ∷ 39 ∷ [])
+
 abbrev pub allowed : Stage → ℕ → Bool
 allowed Stage.Pipeline n = true
-allowed Stage.Passive n = eqb (times n (3 ∷ 33 ∷ 34 ∷ 39 ∷ [])) 0
-allowed Stage.Condition n = eqb (times n (3 ∷ [])) 0 && ltb n 32
+allowed Stage.Passive n = not (pipelineOnly n)
+allowed Stage.Condition n = not (pipelineOnly n) && ltb n 32
 
 abbrev pub kindOf : Stage → ℕ → Kind
 kindOf stage n = if allowed stage n then kindIn kinds n else Kind.Unknown
@@ -221,7 +224,7 @@ module _ (widths : List ℕ) (tables : ℕ) (sort : ℕ → Sort) where
   sortBy Kind.Not a b c = only (isTest (sort a)) Sort.Test
   sortBy (Kind.Connect o) a b c = only (isTest (sort a) && isTest (sort b)) Sort.Test
   sortBy Kind.Skip a b c = Sort.Statement
-  sortBy Kind.Assign a b c = only (ltb a (length widths) && isValue (sort b) && eqb (widthOf (sort b)) (getD widths a 0)) Sort.Statement
+  sortBy Kind.Assign a b c = only (ltb a (length widths) && alike (sort b) (Sort.Value (getD widths a 0))) Sort.Statement
   sortBy Kind.Havoc a b c = only (ltb a (length widths)) Sort.Statement
   sortBy Kind.Assume a b c = only (isTest (sort a)) Sort.Statement
   sortBy Kind.Assert a b c = only (isTest (sort a)) Sort.Statement

@@ -42,7 +42,7 @@ unfoldable mutual
   pub renamedTest : List ℕ → Test → Test
   renamedTest vars (Test.truth b) = Test.truth b
   renamedTest vars (Test.compare o a b) = Test.compare o (renamed vars a) (renamed vars b)
-  renamedTest vars (Test.not-test t) = Test.not-test (renamedTest vars t)
+  renamedTest vars (Test.notTest t) = Test.notTest (renamedTest vars t)
   renamedTest vars (Test.connect o t u) = Test.connect o (renamedTest vars t) (renamedTest vars u)
 
 -- the current variable of each field, and the widths of all variables so far: the next new variable is the number of those
@@ -161,7 +161,7 @@ module _ (p r : List ℕ) (rule : JoinRule) where
       let left = bodyForm (callOf p r t (Hit.Rule i)) s in
       let rest = chainForm t is (beside s (left .after)) in
       join (widths p) rule Passive.chain s (Passive.assume m then left .body) (left .after)
-      (Passive.assume (Test.not-test m) then rest .body) (rest .after)
+      (Passive.assume (Test.notTest m) then rest .body) (rest .after)
 
   abbrev pub tableForm : ℕ → Vars → Form
   tableForm t s = chainForm t (tried r t) s

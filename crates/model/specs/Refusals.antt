@@ -6,7 +6,7 @@ use mathlib.Core.Option.{Option, none, some}
 use lib.Dec.{eqb, ltb, leb}
 use lib.ListN.{length, getD}
 use Rattle.bits.specs.Width.{fits, under}
-use Rattle.model.specs.Lists.{if_then_else_, within, word, each, build, joined, every, exists, first, times}
+use Rattle.model.specs.Lists.{if_then_else_, within, word, each, build, joined, every, exists, first, times, among}
 use Rattle.model.specs.Blocks.{F, N, A, T, R, root, size, pipelineLength, width, widths, words, Call, callAt, pipelineNode, plainNode, body, parameterCount, parameterWidth, keyCount, key, defaultPlace, tableOf, value, mask, callPlace}
 use Rattle.model.specs.Nodes.{isWidth, isFormed, isTest, isStatement, sorts, children}
 use Rattle.model.specs.Runs.{packetWidths}
@@ -25,8 +25,8 @@ pub record Row : Type 0 where
   pub place : ℕ → ℕ
 
 -- a row that looks at each of so many places, and one that looks once
-abbrev pub each-of : ℕ → ℕ → (ℕ → Bool) → Row
-each-of number count well = record { number = number; count = count; well = well; place = λ i. i }
+abbrev pub eachOf : ℕ → ℕ → (ℕ → Bool) → Row
+eachOf number count well = record { number = number; count = count; well = well; place = λ i. i }
 
 abbrev pub once : ℕ → (ℕ → Bool) → (ℕ → ℕ) → Row
 once number well place = record { number = number; count = 1; well = well; place = place }
@@ -90,11 +90,11 @@ unfoldable pub gathered : List (List ℕ) → List ℕ → List ℕ
 gathered before [] = []
 gathered before (c ∷ cs) = getD before c [] ++ gathered before cs
 
-unfoldable pub under-each : List ℕ → List (List ℕ)
-under-each p = build (λ before i. i ∷ gathered before (children (pipelineNode p i))) (N p)
+unfoldable pub underEach : List ℕ → List (List ℕ)
+underEach p = build (λ before i. i ∷ gathered before (children (pipelineNode p i))) (N p)
 
 abbrev pub standsUnder : List ℕ → List (List ℕ) → ℕ → ℕ → Bool
-standsUnder p us i k = ltb 0 (times i (getD us (body p k) []))
+standsUnder p us i k = among i (getD us (body p k) [])
 
 -- a parameter stands only under an action that has it with that width, an apply under none
 abbrev pub placedWell : List ℕ → List (List ℕ) → ℕ → Bool
@@ -119,17 +119,17 @@ ruleWell p r i = ltb (tableOf r i) (T p) && every (pairWell p r i) 4 && callWell
 unfoldable pub checkRows : List ℕ → List ℕ → List Row
 checkRows p r =
     let ss = pipelineSorts p in
-    let us = under-each p in
+    let us = underEach p in
     let all = uses p in
     once 2 (λ _. countsWell p r) (λ _. 0)
-    ∷ each-of 3 (F p) (λ i. isWidth (width p i))
-    ∷ each-of 4 (N p) (λ i. isFormed (sortAt ss i))
-    ∷ each-of 5 (A p) (actionWell p ss)
-    ∷ each-of 6 (T p) (tableWell p)
+    ∷ eachOf 3 (F p) (λ i. isWidth (width p i))
+    ∷ eachOf 4 (N p) (λ i. isFormed (sortAt ss i))
+    ∷ eachOf 5 (A p) (actionWell p ss)
+    ∷ eachOf 6 (T p) (tableWell p)
     ∷ once 7 (λ _. isStatement (sortAt ss (root p))) (λ _. 0)
-    ∷ each-of 8 (N p) (λ i. eqb (times i all) 1)
-    ∷ each-of 9 (N p) (placedWell p us)
-    ∷ each-of 10 (R r) (ruleWell p r)
+    ∷ eachOf 8 (N p) (λ i. eqb (times i all) 1)
+    ∷ eachOf 9 (N p) (placedWell p us)
+    ∷ eachOf 10 (R r) (ruleWell p r)
     ∷ []
 
 -- 11: the packet's length, else its values
@@ -137,17 +137,17 @@ abbrev pub packetRows : List ℕ → List ℕ → List Row
 packetRows p packet =
     let ws = packetWidths p in
     once 11 (λ _. eqb (length packet) (length ws)) (λ _. length packet)
-    ∷ each-of 11 (length ws) (λ i. fits (word ws i) (word packet i))
+    ∷ eachOf 11 (length ws) (λ i. fits (word ws i) (word packet i))
     ∷ []
 
 -- 13: widths, else the valuation's length, else its values
 abbrev pub widthRow : List ℕ → Row
-widthRow ws = each-of 13 (length ws) (λ i. isWidth (word ws i))
+widthRow ws = eachOf 13 (length ws) (λ i. isWidth (word ws i))
 
 abbrev pub valuationRows : List ℕ → List ℕ → List Row
 valuationRows ws valuation =
     once 13 (λ _. eqb (length valuation) (length ws)) (λ _. length valuation)
-    ∷ each-of 13 (length ws) (λ i. fits (word ws i) (word valuation i))
+    ∷ eachOf 13 (length ws) (λ i. fits (word ws i) (word valuation i))
     ∷ []
 
 -- 17, 18: a length that is no number of nodes, or not 1 to a limit; a node that is malformed, or a last one of the wrong sort
@@ -158,7 +158,7 @@ lengthRow number limit nodes =
 abbrev pub nodesRow : ℕ → Stage → (Sort → Bool) → List ℕ → List ℕ → Row
 nodesRow number stage ends nodes ws =
     let ss = sorts stage ws 0 (plainNode nodes) (nodeCount nodes) in
-    each-of number (nodeCount nodes) (λ i. isFormed (sortAt ss i) && (if eqb (suc i) (nodeCount nodes) then ends (sortAt ss i) else true))
+    eachOf number (nodeCount nodes) (λ i. isFormed (sortAt ss i) && (if eqb (suc i) (nodeCount nodes) then ends (sortAt ss i) else true))
 
 -- a form's entries are three a node, and the condition
 abbrev pub entryLimit : ℕ

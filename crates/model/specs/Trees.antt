@@ -29,7 +29,7 @@ mutual
   pub data Test : Type 0 where
     truth : Bool → Test
     compare : Comparison → Val → Val → Test
-    not-test : Test → Test
+    notTest : Test → Test
     connect : Connective → Test → Test → Test
 
 -- assume and assert keep their node's number, by which a run names them
@@ -89,7 +89,7 @@ module _ (given : List ℕ) (tree : ℕ → Tree) (i : ℕ) where
   treeBy Kind.Select a b c = value (select (testAt a) (valueAt b) (valueAt c))
   treeBy Kind.Truth a b c = test (truth (eqb a 1))
   treeBy (Kind.Compare o) a b c = test (compare o (valueAt a) (valueAt b))
-  treeBy Kind.Not a b c = test (not-test (testAt a))
+  treeBy Kind.Not a b c = test (notTest (testAt a))
   treeBy (Kind.Connect o) a b c = test (connect o (testAt a) (testAt b))
   treeBy Kind.Skip a b c = statement skip
   treeBy Kind.Assign a b c = statement (assign a (valueAt b))
@@ -112,8 +112,11 @@ abbrev pub tree : List ℕ → List ℕ → ℕ → Tree
 tree p given i = getD (trees p given (N p)) i nothing
 
 -- the pipeline's statement; an action's body with its data
+abbrev pub noData : List ℕ
+noData = 0 ∷ 0 ∷ []
+
 abbrev pub program : List ℕ → Stmt
-program p = asStatement (tree p [] (root p))
+program p = asStatement (tree p noData (root p))
 
 abbrev pub called : List ℕ → Call → Stmt
 called p c = asStatement (tree p (c .«data») (body p (c .action)))
@@ -160,7 +163,7 @@ unfoldable mutual
   pub truthOf : (ℕ → Bits) → Test → Bool
   truthOf at (truth b) = b
   truthOf at (compare o a b) = compareBits o (bitsOf at a) (bitsOf at b)
-  truthOf at (not-test t) = not (truthOf at t)
+  truthOf at (notTest t) = not (truthOf at t)
   truthOf at (connect o t u) = connected o (truthOf at t) (truthOf at u)
 
 -- the fields' bits in a packet, the variables' in a valuation: each number at the width of its place

@@ -1,0 +1,130 @@
+-- The three demands on the product, each as one statement over the definitions that the calls' contracts cite. The proofs stand
+-- elsewhere. p is a pipeline block and r a rule block, as words; a name with a prime is an area after the call.
+-- Assumes nothing: these are definitions.
+use Prim.Native.Nat.{ℕ, _+_, _*_, _≤_, _<_}
+use mathlib.Core.Path.{_≡_}
+use mathlib.Core.Logic.{_↔_, _⊎_}
+use mathlib.Core.Bool.{true, false}
+use mathlib.Core.List.{List, [], _∷_, _++_}
+use lib.ListN.{length, replicate}
+use Rattle.model.specs.Blocks.{F, T, words}
+use Rattle.model.specs.Trees.{bitsIn}
+use Rattle.model.specs.Good.{Within}
+use Rattle.model.specs.Runs.{State, Outcome, packetWidths, pipelineRun}
+use Rattle.model.specs.Emit.{passiveForm, formLimit}
+use Rattle.model.specs.Condition.{nodeCount, conditionOf, evaluated, lastTruth}
+use Rattle.model.specs.Walk.{packetOf, choicesOf}
+use Rattle.model.specs.Answers as said
+use Rattle.model.specs.Answers.{Answer, done, refused}
+use Rattle.model.specs.Refusals.{Row, checkRows, conditionRows, evaluateRows, lateRow}
+use Rattle.model.specs.Calls.{over, check, loadRows, confirmRows, runRows, passifyRows, extractRows, Loads, Checks, LooksUp, Runs, Confirms, Passifies, Builds, Evaluates, Extracts}
+use Rattle.model.specs.declared.Loaded.{Loaded}
+use Rattle.model.specs.declared.Checked.{Checked}
+use Rattle.model.specs.declared.Ran.{Ran}
+use Rattle.model.specs.declared.Confirmed.{Confirmed}
+use Rattle.model.specs.declared.Passified.{Passified}
+use Rattle.model.specs.declared.Built.{Built}
+use Rattle.model.specs.declared.Evaluated.{Evaluated}
+use Rattle.model.specs.declared.Extracted.{Extracted}
+
+-- DEMAND 1. Refusals are exact, and a refused call changes no lent area but the evaluator's scratch.
+
+-- a row applies at none of its places before i
+abbrev pub WellBefore : Row → ℕ → Type 0
+WellBefore row i = (j : ℕ) → j < i → row .well j ≡ true
+
+-- the row gives number n and place q, at the first of its places at which it applies
+abbrev pub Applies : Row → ℕ → ℕ → Type 0
+Applies row n q = (i : ℕ) × (i < row .count) × (row .well i ≡ false) × WellBefore row i × (n ≡ row .number) × (q ≡ row .place i)
+
+-- no row applies
+unfoldable pub Clear : List Row → Type 0
+Clear [] = Unit {0}
+Clear (row ∷ rows) = WellBefore row (row .count) × Clear rows
+
+-- number n at place q is the first, in the rows' order, that applies
+unfoldable pub First : List Row → ℕ → ℕ → Type 0
+First [] n q = ⊥
+First (row ∷ rows) n q = Applies row n q ⊎ (WellBefore row (row .count) × First rows n q)
+
+-- an answer is a refusal exactly when a row applies, and then it is the first
+abbrev pub Exact : List Row → Answer (List ℕ) → Type 0
+Exact rows answer = (n q : ℕ) → (answer ≡ refused n q) ↔ First rows n q
+
+-- the same for a call that may meet a refusal on its run, once no row applies
+abbrev pub ExactOnRun : List Row → Outcome → Answer (List ℕ) → Type 0
+ExactOnRun rows outcome answer = (n q : ℕ) → (answer ≡ refused n q) ↔ (First rows n q ⊎ (Clear rows × (outcome ≡ Outcome.refused n q)))
+
+-- a refusal leaves the area as it was
+abbrev pub Kept : Answer (List ℕ) → List ℕ → List ℕ → Type 0
+Kept answer area area′ = (n q : ℕ) → answer ≡ refused n q → area′ ≡ area
+
+pub record Demand1 : Type 0 where
+  pub load : (file pipeline rules : List ℕ) (a : Loaded) (pipeline′ rules′ : List ℕ) → Loads file pipeline rules a pipeline′ rules′
+      → Exact (loadRows file (length pipeline) (length rules)) (said.loaded a)
+      × Kept (said.loaded a) pipeline pipeline′ × Kept (said.loaded a) rules rules′
+  pub check : (p r : List ℕ) (a : Checked) → Checks p r a → Exact (checkRows p r) (said.checked a)
+  pub lookup : (p r packet : List ℕ) (t : ℕ) (part : List ℕ) → LooksUp p r packet t part
+      → (part ≡ []) ↔ (((n : ℕ) × (q : ℕ) × First (confirmRows p r packet) n q) ⊎ (T p ≤ t))
+  pub run : (p r packet choices end : List ℕ) (a : Ran) (end′ : List ℕ) → Runs p r packet choices end a end′
+      → ExactOnRun (runRows p r packet (length end)) (pipelineRun p r packet choices) (said.ran a) × Kept (said.ran a) end end′
+  pub confirm : (p r packet choices : List ℕ) (a : Confirmed) → Confirms p r packet choices a
+      → ExactOnRun (confirmRows p r packet) (pipelineRun p r packet choices) (said.confirmed a)
+  pub passify : (p r nodes widths : List ℕ) (a : Passified) (nodes′ widths′ : List ℕ) → Passifies p r nodes widths a nodes′ widths′
+      → Exact (passifyRows p r (length nodes) (length widths)) (said.passified a)
+      × Kept (said.passified a) nodes nodes′ × Kept (said.passified a) widths widths′
+  pub condition : (nodes widths entries : List ℕ) (a : Built) (entries′ : List ℕ) → Builds nodes widths entries a entries′
+      → Exact (conditionRows nodes widths (length entries)) (said.built a) × Kept (said.built a) entries entries′
+  pub evaluate : (entries widths valuation scratch : List ℕ) (a : Evaluated) (scratch′ : List ℕ) → Evaluates entries widths valuation scratch a scratch′
+      → Exact (evaluateRows entries widths valuation (length scratch) ++ (lateRow entries widths ∷ [])) (said.evaluated a)
+      × ((n q : ℕ) → First (evaluateRows entries widths valuation (length scratch)) n q → scratch′ ≡ scratch)
+      × ((n q : ℕ) → Clear (evaluateRows entries widths valuation (length scratch)) → Applies (lateRow entries widths) n q
+      → scratch′ ≡ over (replicate (2 * nodeCount entries) 0) scratch)
+  pub extract : (p r valuation packet choices : List ℕ) (a : Extracted) (packet′ choices′ : List ℕ) → Extracts p r valuation packet choices a packet′ choices′
+      → Exact (extractRows p r valuation (length packet) (length choices)) (said.extracted a)
+      × Kept (said.extracted a) packet packet′ × Kept (said.extracted a) choices choices′
+
+-- DEMAND 2. A run ends as the guarded commands say, and a counterexample is confirmed exactly when its run fails and uses its whole list.
+
+abbrev pub Accepted : List ℕ → List ℕ → Type 0
+Accepted p r = check p r ≡ done tt
+
+-- what Run answers and leaves in the end area, by how the run ends
+abbrev pub Ends : Outcome → Ran → List ℕ → List ℕ → Type 0
+Ends (Outcome.passed s) a end end′ = (a ≡ Ran.Passed (s .used)) × (end′ ≡ over (s .packet) end)
+Ends (Outcome.blocked n s) a end end′ = (a ≡ Ran.Blocked n (s .used)) × (end′ ≡ over (s .packet) end)
+Ends (Outcome.failed n s) a end end′ = (a ≡ Ran.Failed n (s .used)) × (end′ ≡ over (s .packet) end)
+Ends (Outcome.refused number place) a end end′ = (said.ran a ≡ refused number place) × (end′ ≡ end)
+
+-- the run fails, with so many entries used
+abbrev pub FailsWith : List ℕ → List ℕ → List ℕ → List ℕ → ℕ → Type 0
+FailsWith p r packet choices used = (node : ℕ) × (s : State) × (pipelineRun p r packet choices ≡ Outcome.failed node s) × (s .used ≡ used)
+
+pub record Demand2 : Type 0 where
+  pub run : (p r packet choices end : List ℕ) (a : Ran) (end′ : List ℕ) → Accepted p r → Within (packetWidths p) packet → F p ≤ length end
+      → Runs p r packet choices end a end′ → Ends (pipelineRun p r packet choices) a end end′
+  pub confirm : (p r packet choices : List ℕ) (a : Confirmed) → Accepted p r → Within (packetWidths p) packet
+      → Confirms p r packet choices a → (a ≡ Confirmed.Yes) ↔ FailsWith p r packet choices (length choices)
+
+-- DEMAND 3. The condition is exact, in both directions. A blocked run is no failure: it does not end failed.
+
+-- the words of the condition, and that it is false under a valuation
+abbrev pub conditionWords : List ℕ → List ℕ → List ℕ
+conditionWords p r = words (conditionOf (words (passiveForm p r .nodes)))
+
+abbrev pub FalseUnder : List ℕ → List ℕ → List ℕ → Type 0
+FalseUnder p r valuation = lastTruth (evaluated (conditionWords p r) (bitsIn (passiveForm p r .widths) valuation)) ≡ false
+
+-- it can be falsified within the variables' widths; the pipeline can fail on a packet within its widths
+abbrev pub Falsifiable : List ℕ → List ℕ → Type 0
+Falsifiable p r = (valuation : List ℕ) × Within (passiveForm p r .widths) valuation × FalseUnder p r valuation
+
+abbrev pub CanFail : List ℕ → List ℕ → Type 0
+CanFail p r = (packet : List ℕ) × (choices : List ℕ) × (used : ℕ) × Within (packetWidths p) packet × FailsWith p r packet choices used
+
+pub record Demand3 : Type 0 where
+  pub exact : (p r : List ℕ) → Accepted p r → length (passiveForm p r .nodes) ≤ formLimit → Falsifiable p r ↔ CanFail p r
+  pub taken : (p r valuation : List ℕ) → Accepted p r → length (passiveForm p r .nodes) ≤ formLimit
+      → Within (passiveForm p r .widths) valuation → FalseUnder p r valuation
+      → Within (packetWidths p) (packetOf p valuation)
+      × FailsWith p r (packetOf p valuation) (choicesOf p r valuation) (length (choicesOf p r valuation))
