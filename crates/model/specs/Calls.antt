@@ -1,6 +1,6 @@
 -- The nine calls: what each answers, and what each area holds afterwards, for all inputs. An area that is lent is given by its words
 -- before the call. Assumes nothing: these are definitions.
-use Prim.Native.Nat.{ℕ, _+_, _*_, _≤_}
+use Prim.Native.Nat.{ℕ, _*_}
 use mathlib.Core.Path.{_≡_}
 use mathlib.Core.Bool.{Bool, true, false, not, _&&_}
 use mathlib.Core.List.{List, [], _∷_, _++_}
@@ -8,7 +8,7 @@ use lib.Dec.{eqb, ltb, leb}
 use lib.ListN.{length, drop, replicate}
 use Rattle.model.specs.Lists.{if_then_else_}
 use Rattle.model.specs.Blocks.{F, T, Node, words}
-use Rattle.model.specs.Files.{Held, Record, whole, fault, held, pipelineOf, rulesOf}
+use Rattle.model.specs.Files.{Held, whole, fault, held, pipelineOf, rulesOf}
 use Rattle.model.specs.Trees.{Bits, bitsIn}
 use Rattle.model.specs.Tables.{hit, threeWords}
 use Rattle.model.specs.Runs.{State, Outcome, packetWidths, pipelineRun}

@@ -1,7 +1,7 @@
 -- Document 01, "The condition": the entries that a passive form's nodes own, and their evaluation in order.
 -- Assumes nothing: these are definitions.
 use Prim.Native.Nat.{ℕ, _+_, _*_, _-_, _/_}
-use mathlib.Core.Bool.{Bool, true, false, not}
+use mathlib.Core.Bool.{Bool, not}
 use mathlib.Core.List.{List, [], _∷_, _++_}
 use lib.Dec.{eqb, ltb}
 use lib.ListN.{length, getD}

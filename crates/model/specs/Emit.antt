@@ -2,7 +2,6 @@
 -- Each piece is a list of nodes, of which the first has the number `at`, and the last is the piece's own node.
 -- Assumes nothing: these are definitions.
 use Prim.Native.Nat.{ℕ, _+_, _-_}
-use mathlib.Core.Bool.{Bool, true, false}
 use mathlib.Core.List.{List, [], _∷_, _++_}
 use lib.ListN.{length}
 use Rattle.model.specs.Lists.{if_then_else_}

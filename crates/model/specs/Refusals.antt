@@ -1,13 +1,13 @@
 -- Document 01, "Numbers a call can answer": each call's refusals, in its order. Assumes nothing: these are definitions.
-use Prim.Native.Nat.{ℕ, suc, _+_, _*_, _-_, _%_}
-use mathlib.Core.Bool.{Bool, true, false, not, _&&_}
+use Prim.Native.Nat.{ℕ, suc, _+_, _*_, _%_}
+use mathlib.Core.Bool.{Bool, true, not, _&&_}
 use mathlib.Core.List.{List, [], _∷_, _++_}
 use mathlib.Core.Option.{Option, none, some}
 use lib.Dec.{eqb, ltb, leb}
 use lib.ListN.{length, getD}
 use Rattle.bits.specs.Width.{fits, under}
 use Rattle.model.specs.Lists.{if_then_else_, within, word, each, build, joined, every, exists, first, times, among}
-use Rattle.model.specs.Blocks.{F, N, A, T, R, root, size, pipelineLength, width, widths, words, Call, callAt, pipelineNode, plainNode, body, parameterCount, parameterWidth, keyCount, key, defaultPlace, tableOf, value, mask, callPlace}
+use Rattle.model.specs.Blocks.{F, N, A, T, R, root, size, pipelineLength, width, widths, Call, callAt, pipelineNode, plainNode, body, parameterCount, parameterWidth, keyCount, key, defaultPlace, tableOf, value, mask, callPlace}
 use Rattle.model.specs.Nodes.{isWidth, isFormed, isTest, isStatement, sorts, children}
 use Rattle.model.specs.Runs.{packetWidths}
 use Rattle.model.specs.Emit.{formLimit}
@@ -47,7 +47,7 @@ room need lent = once 12 (λ i. leb (need i) lent) need
 -- Check: 2 to 10.
 
 -- 2: the counts, and the length of either block
-abbrev pub countsWell : List ℕ → List ℕ → Bool
+unfoldable pub countsWell : List ℕ → List ℕ → Bool
 countsWell p r =
     leb 5 (length p) && within 1 32 (F p) && within 1 1024 (N p) && leb (A p) 64 && leb (T p) 32
     && eqb (length p) (pipelineLength p)
@@ -65,19 +65,19 @@ abbrev pub usedOrZero : ℕ → ℕ → (ℕ → Bool) → (ℕ → ℕ) → Boo
 usedOrZero most used well number = every (λ j. if ltb j used then well j else eqb (number j) 0) most
 
 -- 5
-abbrev pub actionWell : List ℕ → List Sort → ℕ → Bool
+unfoldable pub actionWell : List ℕ → List Sort → ℕ → Bool
 actionWell p ss i =
     isStatement (sortAt ss (body p i)) && leb (parameterCount p i) 2
     && usedOrZero 2 (parameterCount p i) (λ j. isWidth (parameterWidth p i j)) (parameterWidth p i)
 
 -- the action is there, and the data fit its parameters
-abbrev pub callWell : List ℕ → Call → Bool
+unfoldable pub callWell : List ℕ → Call → Bool
 callWell p c =
     ltb (c .action) (A p)
     && usedOrZero 2 (parameterCount p (c .action)) (λ j. fits (parameterWidth p (c .action) j) (word (c .«data») j)) (word (c .«data»))
 
 -- 6
-abbrev pub tableWell : List ℕ → ℕ → Bool
+unfoldable pub tableWell : List ℕ → ℕ → Bool
 tableWell p i =
     leb (keyCount p i) 4 && usedOrZero 4 (keyCount p i) (λ j. ltb (key p i j) (F p)) (key p i) && callWell p (callAt p (defaultPlace p i))
 
@@ -97,7 +97,7 @@ abbrev pub standsUnder : List ℕ → List (List ℕ) → ℕ → ℕ → Bool
 standsUnder p us i k = among i (getD us (body p k) [])
 
 -- a parameter stands only under an action that has it with that width, an apply under none
-abbrev pub placedWell : List ℕ → List (List ℕ) → ℕ → Bool
+unfoldable pub placedWell : List ℕ → List (List ℕ) → ℕ → Bool
 placedWell p us i =
     let n = pipelineNode p i in
     let parameterWell = exists (λ k. standsUnder p us i k && ltb (n .a) (parameterCount p k) && eqb (n .b) (parameterWidth p k (n .a))) (A p) in
@@ -107,13 +107,13 @@ placedWell p us i =
     true
 
 -- 10: a mask fits its key's width, a value has no bit outside its mask, unused pairs are 0
-abbrev pub pairWell : List ℕ → List ℕ → ℕ → ℕ → Bool
+unfoldable pub pairWell : List ℕ → List ℕ → ℕ → ℕ → Bool
 pairWell p r i j =
     let t = tableOf r i in
     if ltb j (keyCount p t) then fits (width p (key p t j)) (mask r i j) && under (mask r i j) (value r i j) (value r i j)
     else eqb (value r i j) 0 && eqb (mask r i j) 0
 
-abbrev pub ruleWell : List ℕ → List ℕ → ℕ → Bool
+unfoldable pub ruleWell : List ℕ → List ℕ → ℕ → Bool
 ruleWell p r i = ltb (tableOf r i) (T p) && every (pairWell p r i) 4 && callWell p (callAt r (callPlace r i))
 
 unfoldable pub checkRows : List ℕ → List ℕ → List Row

@@ -1,6 +1,5 @@
 -- Document 01, "Runs": how a pipeline ends on a packet and a choice list. Assumes nothing: these are definitions.
-use Prim.Native.Nat.{ℕ, zero, suc, _+_}
-use mathlib.Core.Bool.{Bool, true, false}
+use Prim.Native.Nat.{ℕ, zero, suc}
 use mathlib.Core.List.{List, [], _∷_}
 use lib.ListN.{getD, set}
 use Rattle.bits.specs.Width.{fits}

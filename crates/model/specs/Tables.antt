@@ -10,7 +10,7 @@ use Rattle.model.specs.Blocks.{R, Call, callAt, keyCount, key, defaultPl
 use Rattle.model.specs.declared.Hit.{Hit}
 
 -- rule i matches: at every key, the field's bits under the mask equal the rule's value
-abbrev pub matches : List ℕ → List ℕ → List ℕ → ℕ → Bool
+unfoldable pub matches : List ℕ → List ℕ → List ℕ → ℕ → Bool
 matches p r packet i =
     let t = tableOf r i in
     every (λ j. bits.under (mask r i j) (value r i j) (word packet (key p t j))) (keyCount p t)
