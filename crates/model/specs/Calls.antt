@@ -12,7 +12,7 @@ use Rattle.model.specs.Files.{Held, whole, fault, held, pipelineOf, rule
 use Rattle.model.specs.Trees.{Bits, bitsIn}
 use Rattle.model.specs.Tables.{hit, threeWords}
 use Rattle.model.specs.Runs.{State, Outcome, packetWidths, pipelineRun}
-use Rattle.model.specs.Emit.{Written, passiveForm, formLimit}
+use Rattle.model.specs.Emit.{Emitted, passiveForm, formLimit}
 use Rattle.model.specs.Condition.{nodeCount, conditionOf, evaluated, bitsWords, lastTruth}
 use Rattle.model.specs.Walk.{packetOf, choicesOf}
 use Rattle.model.specs.Answers as said
@@ -36,11 +36,11 @@ written (done x) ws area = over (ws x) area
 written (refused number place) ws area = area
 
 -- LOAD: 1, 12 (pipeline area, then rules)
-pub record Blocks : Type 0 where
+pub record TwoBlocks : Type 0 where
   pub pipeline : List ℕ
   pub rules : List ℕ
 
-abbrev pub blocksOf : Held → Blocks
+abbrev pub blocksOf : Held → TwoBlocks
 blocksOf (whole xs) = record { pipeline = pipelineOf xs; rules = rulesOf xs }
 blocksOf (fault at) = record { pipeline = []; rules = [] }
 
@@ -60,7 +60,7 @@ loadRows file pipelineRoom ruleRoom =
     ∷ room (λ _. length (blocksOf h .rules)) ruleRoom
     ∷ []
 
-unfoldable pub load : List ℕ → ℕ → ℕ → Answer Blocks
+unfoldable pub load : List ℕ → ℕ → ℕ → Answer TwoBlocks
 load file pipelineRoom ruleRoom = after (judge (loadRows file pipelineRoom ruleRoom)) (λ _. done (blocksOf (held file)))
 
 pub record Loads (file pipeline rules : List ℕ) (answer : Loaded) (pipeline′ rules′ : List ℕ) : Type 0 where
@@ -134,7 +134,7 @@ passifyRows p r nodeRoom widthRoom =
     checkRows p r
     ++ (largeRow p r ∷ room (λ _. 4 * length (passiveForm p r .nodes)) nodeRoom ∷ room (λ _. length (passiveForm p r .widths)) widthRoom ∷ [])
 
-unfoldable pub passify : List ℕ → List ℕ → ℕ → ℕ → Answer Written
+unfoldable pub passify : List ℕ → List ℕ → ℕ → ℕ → Answer Emitted
 passify p r nodeRoom widthRoom = after (judge (passifyRows p r nodeRoom widthRoom)) (λ _. done (passiveForm p r))
 
 pub record Passifies (p r nodes widths : List ℕ) (answer : Passified) (nodes′ widths′ : List ℕ) : Type 0 where
@@ -173,7 +173,7 @@ abbrev pub witness : List ℕ → List ℕ → List ℕ → Witness
 witness p r valuation = record { packet = packetOf p valuation; choices = choicesOf p r valuation }
 
 -- the condition's truth, for a form's nodes and its variables' widths
-unfoldable pub conditionTruth : Written → List ℕ → Bool
+unfoldable pub conditionTruth : Emitted → List ℕ → Bool
 conditionTruth w valuation = lastTruth (evaluated (words (conditionOf (words (w .nodes)))) (bitsIn (w .widths) valuation))
 
 abbrev pub extractRows : List ℕ → List ℕ → List ℕ → ℕ → ℕ → List Row

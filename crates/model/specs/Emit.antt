@@ -93,10 +93,10 @@ emit (Passive.chain a xs b ys) = sides (emit a) xs (emit b) ys
 abbrev pub formLimit : ℕ
 formLimit = 65536
 
--- what Passify writes: the nodes of the form and the widths of its variables
-pub record Written : Type 0 where
+-- what Passify writes: the nodes of the form, and the widths of its variables
+pub record Emitted : Type 0 where
   pub nodes : List Node
   pub widths : List ℕ
 
-unfoldable pub passiveForm : List ℕ → List ℕ → Written
+unfoldable pub passiveForm : List ℕ → List ℕ → Emitted
 passiveForm p r = let q = passive p r in record { nodes = emit (q .body) 0; widths = q .after .widths }

@@ -4,7 +4,7 @@ use mathlib.Core.List.{List, [], _∷_, _++_}
 use lib.ListN.{length}
 use Rattle.model.specs.Bytes.{decimal}
 use Rattle.model.specs.Blocks.{Node}
-use Rattle.model.specs.Emit.{Written}
+use Rattle.model.specs.Emit.{Emitted}
 use Rattle.model.specs.Answers.{Answer, done, refused, after}
 use Rattle.model.specs.Calls as calls
 
@@ -50,13 +50,13 @@ nodeLines i [] = []
 nodeLines i (n ∷ ns) = nodeLine i n ++ nodeLines (i + 1) ns
 
 -- n, V and 3n + 1; then the nodes
-abbrev pub formText : Written → List ℕ
+abbrev pub formText : Emitted → List ℕ
 formText w =
     let n = length (w .nodes) in
     passiveText ++ decimal n ++ variablesText ++ decimal (length (w .widths)) ++ conditionText ++ decimal (3 * n + 1) ++ newline
     ++ nodeLines 0 (w .nodes)
 
-abbrev pub textOf : Answer Written → List ℕ
+abbrev pub textOf : Answer Emitted → List ℕ
 textOf (done w) = formText w
 textOf (refused number place) = refusedText ++ decimal number ++ atText ++ decimal place ++ newline
 

@@ -4,7 +4,7 @@ use Prim.Native.Nat.{ℕ, _+_, _-_}
 use mathlib.Core.Bool.{Bool, true, false, not, _&&_}
 use mathlib.Core.List.{List, [], _∷_, _++_}
 use lib.Dec.{eqb, ltb, leb}
-use lib.ListN.{length, getD, drop}
+use lib.ListN.{length, getD}
 use Rattle.bits.specs.Width.{fits}
 use Rattle.bits.specs.declared.Op.{Op}
 use Rattle.model.specs.Lists.{if_then_else_, within, build, among}
@@ -85,87 +85,67 @@ allowed Stage.Condition n = not (pipelineOnly n) && ltb n 32
 abbrev pub kindOf : Stage → ℕ → Kind
 kindOf stage n = if allowed stage n then kindIn kinds n else Kind.Unknown
 
--- how many of the words a, b, c a kind uses
-abbrev pub usedWords : Kind → ℕ
-usedWords Kind.Constant = 2
-usedWords Kind.Field = 1
-usedWords Kind.Parameter = 2
-usedWords (Kind.Binary o) = 2
-usedWords Kind.Complement = 1
-usedWords Kind.Slice = 3
-usedWords Kind.Join = 2
-usedWords Kind.Select = 3
-usedWords Kind.Truth = 1
-usedWords (Kind.Compare o) = 2
-usedWords Kind.Not = 1
-usedWords (Kind.Connect o) = 2
-usedWords Kind.Skip = 0
-usedWords Kind.Assign = 2
-usedWords Kind.Havoc = 1
-usedWords Kind.Assume = 1
-usedWords Kind.Assert = 1
-usedWords Kind.Sequence = 2
-usedWords Kind.Choice = 2
-usedWords Kind.Apply = 1
-usedWords Kind.Unknown = 0
+-- What the words a, b and c of a kind are. A word that its kind doesn't use is 0.
+pub data Role : Type 0 where
+  child number unused : Role
 
--- which of those words are children
-pub record ChildWords : Type 0 where
-  pub a : Bool
-  pub b : Bool
-  pub c : Bool
+pub record Roles : Type 0 where
+  pub a : Role
+  pub b : Role
+  pub c : Role
 
-abbrev pub noChild : ChildWords
-noChild = record { a = false; b = false; c = false }
+abbrev pub words : Role → Role → Role → Roles
+words a b c = record { a = a; b = b; c = c }
 
-abbrev pub childA : ChildWords
-childA = record { a = true; b = false; c = false }
+abbrev pub roles : Kind → Roles
+roles Kind.Constant = words number number unused
+roles Kind.Field = words number unused unused
+roles Kind.Parameter = words number number unused
+roles (Kind.Binary o) = words child child unused
+roles Kind.Complement = words child unused unused
+roles Kind.Slice = words child number number
+roles Kind.Join = words child child unused
+roles Kind.Select = words child child child
+roles Kind.Truth = words number unused unused
+roles (Kind.Compare o) = words child child unused
+roles Kind.Not = words child unused unused
+roles (Kind.Connect o) = words child child unused
+roles Kind.Skip = words unused unused unused
+roles Kind.Assign = words number child unused
+roles Kind.Havoc = words number unused unused
+roles Kind.Assume = words child unused unused
+roles Kind.Assert = words child unused unused
+roles Kind.Sequence = words child child unused
+roles Kind.Choice = words child child unused
+roles Kind.Apply = words number unused unused
+roles Kind.Unknown = words unused unused unused
 
-abbrev pub childB : ChildWords
-childB = record { a = false; b = true; c = false }
+abbrev pub childIn : Role → ℕ → List ℕ
+childIn child x = x ∷ []
+childIn number x = []
+childIn unused x = []
 
-abbrev pub childAB : ChildWords
-childAB = record { a = true; b = true; c = false }
+abbrev pub renumberedIn : (ℕ → ℕ) → Role → ℕ → ℕ
+renumberedIn f child x = f x
+renumberedIn f number x = x
+renumberedIn f unused x = x
 
-abbrev pub childABC : ChildWords
-childABC = record { a = true; b = true; c = true }
+abbrev pub zeroIn : Role → ℕ → Bool
+zeroIn child x = true
+zeroIn number x = true
+zeroIn unused x = eqb x 0
 
-abbrev pub holds : Kind → ChildWords
-holds Kind.Constant = noChild
-holds Kind.Field = noChild
-holds Kind.Parameter = noChild
-holds (Kind.Binary o) = childAB
-holds Kind.Complement = childA
-holds Kind.Slice = childA
-holds Kind.Join = childAB
-holds Kind.Select = childABC
-holds Kind.Truth = noChild
-holds (Kind.Compare o) = childAB
-holds Kind.Not = childA
-holds (Kind.Connect o) = childAB
-holds Kind.Skip = noChild
-holds Kind.Assign = childB
-holds Kind.Havoc = noChild
-holds Kind.Assume = childA
-holds Kind.Assert = childA
-holds Kind.Sequence = childAB
-holds Kind.Choice = childAB
-holds Kind.Apply = noChild
-holds Kind.Unknown = noChild
-
--- a node's children; the node with each child's number changed
-abbrev pub childrenIf : ChildWords → Node → List ℕ
-childrenIf h n = (if h .a then n .a ∷ [] else []) ++ (if h .b then n .b ∷ [] else []) ++ (if h .c then n .c ∷ [] else [])
-
+-- a node's children; the node with each child's number changed; its unused words are 0
 abbrev pub children : Node → List ℕ
-children n = childrenIf (holds (kindIn kinds (n .kind))) n
-
-abbrev pub renumberedIf : (ℕ → ℕ) → ChildWords → Node → Node
-renumberedIf f h n =
-    node (n .kind) (if h .a then f (n .a) else n .a) (if h .b then f (n .b) else n .b) (if h .c then f (n .c) else n .c)
+children n = let w = roles (kindIn kinds (n .kind)) in childIn (w .a) (n .a) ++ childIn (w .b) (n .b) ++ childIn (w .c) (n .c)
 
 abbrev pub renumbered : (ℕ → ℕ) → Node → Node
-renumbered f n = renumberedIf f (holds (kindIn kinds (n .kind))) n
+renumbered f n =
+    let w = roles (kindIn kinds (n .kind)) in
+    node (n .kind) (renumberedIn f (w .a) (n .a)) (renumberedIn f (w .b) (n .b)) (renumberedIn f (w .c) (n .c))
+
+abbrev pub unusedZero : Kind → Node → Bool
+unusedZero k n = let w = roles k in zeroIn (w .a) (n .a) && zeroIn (w .b) (n .b) && zeroIn (w .c) (n .c)
 
 -- Sorts. What is no value has width 0.
 abbrev pub widthOf : Sort → ℕ
@@ -232,14 +212,6 @@ module _ (widths : List ℕ) (tables : ℕ) (sort : ℕ → Sort) where
   sortBy Kind.Choice a b c = only (isStatement (sort a) && isStatement (sort b)) Sort.Statement
   sortBy Kind.Apply a b c = only (ltb a tables) Sort.Statement
   sortBy Kind.Unknown a b c = Sort.Malformed
-
--- a word that its kind doesn't use is 0
-abbrev pub zeros : List ℕ → Bool
-zeros [] = true
-zeros (x ∷ xs) = eqb x 0 && zeros xs
-
-abbrev pub unusedZero : Kind → Node → Bool
-unusedZero k n = zeros (drop (usedWords k) (n .a ∷ n .b ∷ n .c ∷ []))
 
 unfoldable pub sortOf : Stage → List ℕ → ℕ → List Sort → Node → Sort
 sortOf stage widths tables before n =
