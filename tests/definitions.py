@@ -25,6 +25,7 @@ use Rattle.model.specs.Answers.{Answer, done, refused, told, yesOrNo}
 use Rattle.model.specs.Refusals.{judge, evaluateRows}
 use Rattle.model.specs.Calls as calls
 use Rattle.model.specs.Listing.{listing}
+use Rattle.model.specs.declared.Part.{Part}
 use Rattle.model.proofs.Compute.{compute}
 """
 
@@ -43,12 +44,9 @@ def answered(answer, values):
     return f'refused {rest[0]} {rest[1]}' if kind == 'refused' else 'done ' + spelt(values)
 
 
-def lookup_words(blocks, answer):
-    if answer == 'empty':
-        return []
-    _, which, offset = answer.split()
-    block = blocks['rules' if which == 'rules' else 'pipeline'].split()
-    return block[int(offset):int(offset) + 3]
+def part(answer):
+    """Which part of which block Lookup answers."""
+    return 'Part.Empty' if answer == 'empty' else f'Part.{answer.split()[1].capitalize()} {answer.split()[2]}'
 
 
 def evaluate_rows(args, room, parts):
@@ -79,7 +77,7 @@ def equations(line):
     if call == 'check':
         return [(f'told (λ _. []) (calls.check {lists(2)})', answered(answer, []))]
     if call == 'lookup':
-        return [(f'calls.lookup {lists(3)} {numbers(3)}', spelt(lookup_words({'pipeline': args[0], 'rules': args[1]}, answer)))]
+        return [(f'calls.lookup {lists(3)} {numbers(3)}', part(answer))]
     if call == 'run':
         how = {'passed': '0', 'blocked': '1', 'failed': '2'}.get(parts[0].split()[0])
         shown = 'λ e. e .how ∷ e .node ∷ e .state .used ∷ e .state .packet'

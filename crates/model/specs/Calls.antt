@@ -10,7 +10,7 @@ use Rattle.model.specs.Lists.{if_then_else_}
 use Rattle.model.specs.Blocks.{F, T, Node, words}
 use Rattle.model.specs.Files.{Held, whole, fault, held, pipelineOf, rulesOf}
 use Rattle.model.specs.Trees.{Bits, bitsIn}
-use Rattle.model.specs.Tables.{hit, threeWords}
+use Rattle.model.specs.Tables.{hit, partOf, partWords}
 use Rattle.model.specs.Runs.{State, Outcome, packetWidths, pipelineRun}
 use Rattle.model.specs.Emit.{Emitted, passiveForm, formLimit}
 use Rattle.model.specs.Condition.{nodeCount, conditionOf, evaluated, bitsWords, lastTruth}
@@ -18,6 +18,7 @@ use Rattle.model.specs.Walk.{packetOf, choicesOf}
 use Rattle.model.specs.Answers as said
 use Rattle.model.specs.Answers.{Answer, done, refused, after, told, yesOrNo}
 use Rattle.model.specs.Refusals.{Row, judge, once, room, checkRows, packetRows, valuationRows, conditionRows, evaluateRows, lateRow}
+use Rattle.model.specs.declared.Part.{Part}
 use Rattle.model.specs.declared.Loaded.{Loaded}
 use Rattle.model.specs.declared.Checked.{Checked}
 use Rattle.model.specs.declared.Ran.{Ran}
@@ -75,19 +76,22 @@ check p r = judge (checkRows p r)
 pub record Checks (p r : List ℕ) (answer : Checked) : Type 0 where
   pub answers : said.checked answer ≡ told (λ _. []) (check p r)
 
--- LOOKUP: the three words, or an empty part when check or packet is refused or the table number isn't below T
-abbrev pub lookedUp : Answer (Unit {0}) → List ℕ → List ℕ
-lookedUp (done _) ws = ws
-lookedUp (refused number place) ws = []
+-- LOOKUP: an empty part when check or packet is refused or the table number isn't below T, else the part of what hits
+abbrev pub unlessRefused : Answer (Unit {0}) → Part → Part
+unlessRefused (done _) found = found
+unlessRefused (refused number place) found = Part.Empty
 
-unfoldable pub lookup : List ℕ → List ℕ → List ℕ → ℕ → List ℕ
+abbrev pub startRows : List ℕ → List ℕ → List ℕ → List Row
+startRows p r packet = checkRows p r ++ packetRows p packet  -- 2 to 11
+
+unfoldable pub lookup : List ℕ → List ℕ → List ℕ → ℕ → Part
 lookup p r packet t =
-    let found = threeWords p r t (hit p r packet t) in
-    let part = if ltb t (T p) then found else [] in
-    lookedUp (judge (checkRows p r ++ packetRows p packet)) part
+    let there = partOf p r t (hit p r packet t) in
+    let found = if ltb t (T p) then there else Part.Empty in
+    unlessRefused (judge (startRows p r packet)) found
 
 pub record LooksUp (p r packet : List ℕ) (t : ℕ) (part : List ℕ) : Type 0 where
-  pub answers : part ≡ lookup p r packet t
+  pub answers : part ≡ partWords p r (lookup p r packet t)
 
 -- RUN: 2 to 11, 12, then 14 or 15 as met
 pub record Ended : Type 0 where
@@ -102,7 +106,7 @@ ended (Outcome.failed n s) = done (record { how = 2; node = n; state = s })
 ended (Outcome.refused number place) = refused number place
 
 abbrev pub runRows : List ℕ → List ℕ → List ℕ → ℕ → List Row
-runRows p r packet endRoom = checkRows p r ++ packetRows p packet ++ (room (λ _. F p) endRoom ∷ [])
+runRows p r packet endRoom = startRows p r packet ++ (room (λ _. F p) endRoom ∷ [])
 
 unfoldable pub run : List ℕ → List ℕ → List ℕ → List ℕ → ℕ → Answer Ended
 run p r packet choices endRoom = after (judge (runRows p r packet endRoom)) (λ _. ended (pipelineRun p r packet choices))
@@ -112,15 +116,12 @@ pub record Runs (p r packet choices end : List ℕ) (answer : Ran) (end′ : Lis
   pub endArea : end′ ≡ written (run p r packet choices (length end)) (λ e. e .state .packet) end
 
 -- CONFIRM: as Run, without 12. Yes exactly when the run fails and uses its whole choice list
-abbrev pub confirmRows : List ℕ → List ℕ → List ℕ → List Row
-confirmRows p r packet = checkRows p r ++ packetRows p packet
-
 abbrev pub failsWhole : List ℕ → Ended → Bool
 failsWhole choices e = eqb (e .how) 2 && eqb (e .state .used) (length choices)
 
 unfoldable pub confirm : List ℕ → List ℕ → List ℕ → List ℕ → Answer Bool
 confirm p r packet choices =
-    after (judge (confirmRows p r packet)) (λ _. after (ended (pipelineRun p r packet choices)) (λ e. done (failsWhole choices e)))
+    after (judge (startRows p r packet)) (λ _. after (ended (pipelineRun p r packet choices)) (λ e. done (failsWhole choices e)))
 
 pub record Confirms (p r packet choices : List ℕ) (answer : Confirmed) : Type 0 where
   pub answers : said.confirmed answer ≡ told yesOrNo (confirm p r packet choices)

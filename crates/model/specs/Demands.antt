@@ -17,7 +17,7 @@ use Rattle.model.specs.Walk.{packetOf, choicesOf}
 use Rattle.model.specs.Answers as said
 use Rattle.model.specs.Answers.{Answer, done, refused}
 use Rattle.model.specs.Refusals.{Row, checkRows, conditionRows, evaluateRows, lateRow}
-use Rattle.model.specs.Calls.{over, check, loadRows, confirmRows, runRows, passifyRows, extractRows, Loads, Checks, LooksUp, Runs, Confirms, Passifies, Builds, Evaluates, Extracts}
+use Rattle.model.specs.Calls.{over, check, loadRows, startRows, runRows, passifyRows, extractRows, Loads, Checks, LooksUp, Runs, Confirms, Passifies, Builds, Evaluates, Extracts}
 use Rattle.model.specs.declared.Loaded.{Loaded}
 use Rattle.model.specs.declared.Checked.{Checked}
 use Rattle.model.specs.declared.Ran.{Ran}
@@ -65,11 +65,11 @@ pub record Demand1 : Type 0 where
       × Kept (said.loaded a) pipeline pipeline′ × Kept (said.loaded a) rules rules′
   pub check : (p r : List ℕ) (a : Checked) → Checks p r a → Exact (checkRows p r) (said.checked a)
   pub lookup : (p r packet : List ℕ) (t : ℕ) (part : List ℕ) → LooksUp p r packet t part
-      → (part ≡ []) ↔ (((n : ℕ) × (q : ℕ) × First (confirmRows p r packet) n q) ⊎ (T p ≤ t))
+      → (part ≡ []) ↔ (((n : ℕ) × (q : ℕ) × First (startRows p r packet) n q) ⊎ (T p ≤ t))
   pub run : (p r packet choices end : List ℕ) (a : Ran) (end′ : List ℕ) → Runs p r packet choices end a end′
       → ExactOnRun (runRows p r packet (length end)) (pipelineRun p r packet choices) (said.ran a) × Kept (said.ran a) end end′
   pub confirm : (p r packet choices : List ℕ) (a : Confirmed) → Confirms p r packet choices a
-      → ExactOnRun (confirmRows p r packet) (pipelineRun p r packet choices) (said.confirmed a)
+      → ExactOnRun (startRows p r packet) (pipelineRun p r packet choices) (said.confirmed a)
   pub passify : (p r nodes widths : List ℕ) (a : Passified) (nodes′ widths′ : List ℕ) → Passifies p r nodes widths a nodes′ widths′
       → Exact (passifyRows p r (length nodes) (length widths)) (said.passified a)
       × Kept (said.passified a) nodes nodes′ × Kept (said.passified a) widths widths′

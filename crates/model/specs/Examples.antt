@@ -7,15 +7,19 @@ use mathlib.Core.List.{List, [], _∷_, _++_}
 use lib.ListN.{length}
 use Rattle.bits.specs.Width.{sum, difference, slice, join, less, under}
 use Rattle.model.specs.Blocks.{Node, words}
+use Rattle.model.specs.Tables.{partWords}
 use Rattle.model.specs.Emit.{passiveForm}
 use Rattle.model.specs.Answers.{Answer, done, after, told}
 use Rattle.model.specs.Condition.{lastTruth}
 use Rattle.model.specs.Calls as calls
 
--- What the calls answer, with all the room that they need: a run's ending, node, entries used and packet; n and V of the passive form;
+-- What the calls answer, with all the room that they need: the looked-up words; a run's ending, node, entries used and packet; n and V of the passive form;
 -- the entry count; the condition's truth under a valuation; the packet and the choices taken out of a valuation.
 abbrev pub plenty : ℕ
 plenty = 10000
+
+abbrev pub lookedUp : List ℕ → List ℕ → List ℕ → ℕ → List ℕ
+lookedUp p r packet t = partWords p r (calls.lookup p r packet t)
 
 abbrev pub ends : List ℕ → List ℕ → List ℕ → List ℕ → Answer (List ℕ)
 ends p r packet choices = told (λ e. e .how ∷ e .node ∷ e .state .used ∷ e .state .packet) (calls.run p r packet choices plenty)
@@ -155,8 +159,8 @@ pub record MarkedExamples : Type 0 where
   pub two : (slice 7 4 171 ≡ 10) × (join 4 10 11 ≡ 171) × (ends parts [] (1 ∷ 1 ∷ []) [] ≡ done (0 ∷ 0 ∷ 0 ∷ 10 ∷ 171 ∷ []))
   pub three : (less 255 0 ≡ false) × (ends lessThan [] (5 ∷ []) [] ≡ done (2 ∷ 3 ∷ 0 ∷ 5 ∷ []))
   pub four : (under 240 16 31 ≡ true) × (under 240 16 32 ≡ false)
-      × (calls.lookup keyed keyedRules (31 ∷ 0 ∷ []) 0 ≡ 0 ∷ 7 ∷ 0 ∷ []) × (calls.lookup keyed keyedRules (32 ∷ 0 ∷ []) 0 ≡ 1 ∷ 0 ∷ 0 ∷ [])
-  pub five : (calls.lookup keyless keylessRules (5 ∷ []) 0 ≡ 0 ∷ 1 ∷ 0 ∷ []) × (ends keyless keylessRules (5 ∷ []) [] ≡ done (0 ∷ 0 ∷ 0 ∷ 1 ∷ []))
+      × (lookedUp keyed keyedRules (31 ∷ 0 ∷ []) 0 ≡ 0 ∷ 7 ∷ 0 ∷ []) × (lookedUp keyed keyedRules (32 ∷ 0 ∷ []) 0 ≡ 1 ∷ 0 ∷ 0 ∷ [])
+  pub five : (lookedUp keyless keylessRules (5 ∷ []) 0 ≡ 0 ∷ 1 ∷ 0 ∷ []) × (ends keyless keylessRules (5 ∷ []) [] ≡ done (0 ∷ 0 ∷ 0 ∷ 1 ∷ []))
   pub six : (ends (bothFalse 35 36) [] (5 ∷ []) [] ≡ done (1 ∷ 1 ∷ 0 ∷ 5 ∷ []))
       × ((valuation : List ℕ) → calls.conditionTruth (passiveForm (bothFalse 35 36) []) valuation ≡ true)
   pub seven : (ends (bothFalse 36 35) [] (5 ∷ []) [] ≡ done (2 ∷ 1 ∷ 0 ∷ 5 ∷ []))

@@ -8,6 +8,7 @@ use Rattle.bits.specs.Width as bits
 use Rattle.model.specs.Lists.{if_then_else_, every, each, those, word, part}
 use Rattle.model.specs.Blocks.{R, Call, callAt, keyCount, key, defaultPlace, tableOf, value, mask, callPlace}
 use Rattle.model.specs.declared.Hit.{Hit}
+use Rattle.model.specs.declared.Part.{Part}
 
 -- rule i matches: at every key, the field's bits under the mask equal the rule's value
 unfoldable pub matches : List ℕ → List ℕ → List ℕ → ℕ → Bool
@@ -40,12 +41,21 @@ firstThat test (i ∷ is) = if test i then Hit.Rule i else firstThat test is
 abbrev pub hit : List ℕ → List ℕ → List ℕ → ℕ → Hit
 hit p r packet t = firstThat (matches p r packet) (tried r t)
 
--- what runs then
-abbrev pub callOf : List ℕ → List ℕ → ℕ → Hit → Call
-callOf p r t (Hit.Rule i) = callAt r (callPlace r i)
-callOf p r t Hit.Default = callAt p (defaultPlace p t)
+-- where its three words stand, action and data: a part of the rule block or of the pipeline block
+abbrev pub partOf : List ℕ → List ℕ → ℕ → Hit → Part
+partOf p r t (Hit.Rule i) = Part.Rules (callPlace r i)
+partOf p r t Hit.Default = Part.Pipeline (defaultPlace p t)
 
--- the three words themselves, a part of the rule block or of the pipeline block
-abbrev pub threeWords : List ℕ → List ℕ → ℕ → Hit → List ℕ
-threeWords p r t (Hit.Rule i) = part r (callPlace r i) 3
-threeWords p r t Hit.Default = part p (defaultPlace p t) 3
+-- the words themselves, and what they call
+abbrev pub partWords : List ℕ → List ℕ → Part → List ℕ
+partWords p r (Part.Rules at) = part r at 3
+partWords p r (Part.Pipeline at) = part p at 3
+partWords p r Part.Empty = []
+
+abbrev pub callIn : List ℕ → List ℕ → Part → Call
+callIn p r (Part.Rules at) = callAt r at
+callIn p r (Part.Pipeline at) = callAt p at
+callIn p r Part.Empty = callAt [] 0
+
+abbrev pub callOf : List ℕ → List ℕ → ℕ → Hit → Call
+callOf p r t h = callIn p r (partOf p r t h)

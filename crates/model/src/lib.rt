@@ -68,6 +68,13 @@ pub enum Hit {
     Default,
 }
 
+// Where Lookup's three words stand, by the place of the first in its block.
+pub enum Part {
+    Rules(usize),
+    Pipeline(usize),
+    Empty,
+}
+
 // A refusal, with its place: the rows of document 01's table.
 pub enum Refusal {
     File(usize),
