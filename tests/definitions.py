@@ -1,8 +1,11 @@
 #!/usr/bin/env python3
-"""definitions.py [--every K] [--start J]: holds the definitions of crates/model/specs to the vectors in tests/vectors.
+"""definitions.py [--each K]: holds the definitions of crates/model/specs to the vectors in tests/vectors.
 
 Each case becomes an equation between what a definition gives and the answer of the vector, and the checker computes both sides.
-With --every K one case in K is taken, from the Jth on. The last line is 'N passed, M failed', counted in cases."""
+With --each K at most K cases are taken of each call and kind of answer (a success, or a refusal's number), spread over the file.
+Left out, and counted apart, are the cases with more than 100 rules, whose forms have some 50,000 nodes and more: the checker does not
+compute so far.
+The last line is 'N passed, M failed', counted in cases. A case has passed only where the checker says that its crate is proved."""
 import argparse
 import os
 import re
@@ -22,7 +25,6 @@ use lib.ListN.{length, replicate}
 use Rattle.model.specs.Blocks.{words}
 use Rattle.model.specs.Condition.{bitsWords, lastTruth}
 use Rattle.model.specs.Answers.{Answer, done, refused, told, yesOrNo}
-use Rattle.model.specs.Refusals.{judge, evaluateRows}
 use Rattle.model.specs.Calls as calls
 use Rattle.model.specs.Listing.{listing}
 use Rattle.model.specs.declared.Part.{Part}
@@ -51,10 +53,9 @@ def part(answer):
 
 def evaluate_rows(args, room, parts):
     """Two equations: the answer with the values, and what the scratch, filled with 7s, holds afterwards."""
-    entries = spelt(args[0].split())
     inputs = ' '.join(spelt(a.split()) for a in args[:3])
     call = f'calls.evaluate {inputs} {room}'
-    after = f'calls.written (judge (evaluateRows {inputs} {room})) (λ _. calls.scratchWords {entries} ({call})) (replicate {room} 7)'
+    after = f'calls.scratchAfter {inputs} (replicate {room} 7)'
     if parts[0].startswith('refused'):
         zeroed = int(parts[1].split()[1]) if parts[1].startswith('zeroed') else 0
         scratch, values = ['0'] * zeroed, []
@@ -117,31 +118,68 @@ def write_crate(name, cases):
                 f.write(f'\ncase-{number}-{k} : {left} ≡ {right}\nunfolding compute\ncase-{number}-{k} = refl\n')
 
 
-def main():
-    parser = argparse.ArgumentParser()
-    parser.add_argument('--every', type=int, default=1)
-    parser.add_argument('--start', type=int, default=1)
-    args = parser.parse_args()
-    with open(os.path.join(HERE, 'vectors', 'document-01.txt')) as f:
-        cases = [(n, line) for n, line in enumerate(f, 1) if line.strip()]
-    cases = cases[args.start - 1::args.every]
+def too_large(line):
+    call, *args = line.split(';')
+    takes_rules = call.strip() in ('check', 'lookup', 'run', 'confirm', 'passify', 'extract')
+    return takes_rules and len(args[1].split()) > 100 * 12
+
+
+def kind_of(line):
+    """What a case is a case of: its call, and the first two words of a refusal or the first word of another answer."""
+    call, *_, answer = [part.strip() for part in line.split(';')]
+    words = answer.split()
+    return call, *words[:2 if words[0] == 'refused' else 1]
+
+
+def chosen(cases, most):
+    """At most so many cases of each kind, spread over the file."""
+    if most is None:
+        return cases
+    groups = {}
+    for case in cases:
+        groups.setdefault(kind_of(case[1]) if not case[1].startswith('listing') else 'listing', []).append(case)
+    taken = []
+    for group in groups.values():
+        step = max(1, len(group) // most)
+        taken += group[::step][:most]
+    return sorted(taken)
+
+
+def write_repository(cases):
+    """Crates of some cases each, beside the crates whose definitions they are about. Gives each crate's cases."""
     shutil.rmtree(WORK, ignore_errors=True)
-    names = [f'rows{i}' for i in range((len(cases) + PER_CRATE - 1) // PER_CRATE)]
-    for i, name in enumerate(names):
-        write_crate(name, cases[i * PER_CRATE:(i + 1) * PER_CRATE])
+    crates = {f'rows{i // PER_CRATE}': cases[i:i + PER_CRATE] for i in range(0, len(cases), PER_CRATE)}
+    for name, some in crates.items():
+        write_crate(name, some)
     for crate in ('bits', 'model'):
         os.symlink(os.path.join(TOP, 'crates', crate), os.path.join(WORK, 'crates', crate))
     with open(os.path.join(WORK, 'crates.txt'), 'w') as f:
-        f.write('bits:\nmodel: bits\n' + ''.join(f'{name}: model\n' for name in names))
+        f.write('bits:\nmodel: bits\n' + ''.join(f'{name}: model\n' for name in crates))
+    return crates
+
+
+def main():
+    parser = argparse.ArgumentParser()
+    parser.add_argument('--each', type=int)
+    args = parser.parse_args()
+    with open(os.path.join(HERE, 'vectors', 'document-01.txt')) as f:
+        every = [(n, line) for n, line in enumerate(f, 1) if line.strip()]
+    cases = chosen([case for case in every if not too_large(case[1])], args.each)
+    crates = write_repository(cases)
     run = subprocess.run(['rt', 'check'], cwd=WORK, capture_output=True, text=True, env={**os.environ, 'RT_CUT': '600'})
-    wrong = sorted({int(n) for n in re.findall(r'error: `case-(\d+)-\d+`', run.stdout + run.stderr)})
-    for number in wrong:
-        print(f'definitions: line {number} of the vectors is answered otherwise')
-    if run.returncode != 0 and not wrong:
-        print((run.stdout + run.stderr)[-4000:])
-        wrong = [number for number, _ in cases]
+    said = run.stdout + run.stderr
+    wrong = {int(n) for n in re.findall(r'error: `case-(\d+)-\d+`', said)}
+    for name, some in crates.items():
+        numbers = {number for number, _ in some}
+        if f'rt: {name} proved' not in said and not numbers & wrong:
+            wrong |= numbers
+    for number in sorted(wrong):
+        print(f'definitions: line {number} of the vectors is not shown to agree')
+    if wrong:
+        print(said[-4000:])
+    print(f'definitions: {len(cases)} of {len(every)} cases taken, {sum(too_large(line) for _, line in every)} left out as too large')
     print(f'definitions: {len(cases) - len(wrong)} passed, {len(wrong)} failed')
-    sys.exit(1 if wrong else 0)
+    sys.exit(1 if wrong or run.returncode != 0 or not cases else 0)
 
 
 main()

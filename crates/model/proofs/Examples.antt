@@ -1,11 +1,11 @@
--- The marked examples: each row by computation. Assumes nothing.
+-- The marked examples, and ours: each row by computation. Assumes nothing.
 use mathlib.Core.Path.{refl}
-use Rattle.model.specs.Examples.{MarkedExamples}
+use Rattle.model.specs.Examples.{ExampleRows}
 use Rattle.model.proofs.Compute.{compute}
 
-pub marked : MarkedExamples
+pub examples : ExampleRows
 unfolding compute
-marked =
+examples =
     record {
       one = (refl, refl, refl, refl);
       two = (refl, refl, refl);
@@ -14,7 +14,10 @@ marked =
       five = (refl, refl);
       six = (refl, λ valuation. refl);
       seven = (refl, λ valuation. refl);
-      eight = (refl, refl, refl, refl, refl, refl);
-      nine = (refl, refl, refl);
-      ours = (refl, refl);
+      eight = (refl, refl, refl, refl, refl, refl, refl);
+      nine = (refl, refl, refl, refl);
+      bothSidesFail = (refl, refl, refl);
+      oneSideFails = (refl, refl);
+      noRules = refl;
+      keyReadOnce = (refl, refl);
     }

@@ -1,4 +1,3 @@
 -- Laws of the definitions, for the crates above.
 pub mod Compute
-pub mod Numbers
 pub mod Examples

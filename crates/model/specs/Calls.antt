@@ -160,10 +160,14 @@ abbrev pub scratchWords : List ℕ → Answer (List Bits) → List ℕ
 scratchWords entries (done xs) = bitsWords xs
 scratchWords entries (refused number place) = replicate (2 * nodeCount entries) 0
 
+abbrev pub scratchAfter : List ℕ → List ℕ → List ℕ → List ℕ → List ℕ
+scratchAfter entries ws valuation scratch =
+    let answer = evaluate entries ws valuation (length scratch) in
+    written (judge (evaluateRows entries ws valuation (length scratch))) (λ _. scratchWords entries answer) scratch
+
 pub record Evaluates (entries ws valuation scratch : List ℕ) (answer : Evaluated) (scratch′ : List ℕ) : Type 0 where
   pub answers : said.evaluated answer ≡ told (λ xs. yesOrNo (lastTruth xs)) (evaluate entries ws valuation (length scratch))
-  pub scratchArea : scratch′
-      ≡ written (judge (evaluateRows entries ws valuation (length scratch))) (λ _. scratchWords entries (evaluate entries ws valuation (length scratch))) scratch
+  pub scratchArea : scratch′ ≡ scratchAfter entries ws valuation scratch
 
 -- EXTRACT: 2 to 10, 12 if too large, 13, 16, 12 (packet, then choices)
 pub record Witness : Type 0 where

@@ -1,4 +1,4 @@
--- The three demands on the product, each as one statement over the definitions that the calls' contracts cite. The proofs stand
+-- Document 01, "What a call owes its caller", and the three demands on the product, each as one statement over the definitions that the calls' contracts cite. The proofs stand
 -- elsewhere. p is a pipeline block and r a rule block, as words; a name with a prime is an area after the call.
 -- Assumes nothing: these are definitions.
 use Prim.Native.Nat.{ℕ, _*_, _≤_, _<_}
@@ -8,16 +8,15 @@ use mathlib.Core.Bool.{true, false}
 use mathlib.Core.List.{List, [], _∷_, _++_}
 use lib.ListN.{length, replicate}
 use Rattle.model.specs.Blocks.{F, T, words}
-use Rattle.model.specs.Trees.{bitsIn}
 use Rattle.model.specs.Good.{Within}
 use Rattle.model.specs.Runs.{State, Outcome, packetWidths, pipelineRun}
 use Rattle.model.specs.Emit.{passiveForm, formLimit}
 use Rattle.model.specs.Condition.{nodeCount, conditionOf, evaluated, lastTruth}
 use Rattle.model.specs.Walk.{packetOf, choicesOf}
 use Rattle.model.specs.Answers as said
-use Rattle.model.specs.Answers.{Answer, done, refused}
+use Rattle.model.specs.Answers.{Answer, done, refused, told, yesOrNo}
 use Rattle.model.specs.Refusals.{Row, checkRows, conditionRows, evaluateRows, lateRow}
-use Rattle.model.specs.Calls.{over, check, loadRows, startRows, runRows, passifyRows, extractRows, Loads, Checks, LooksUp, Runs, Confirms, Passifies, Builds, Evaluates, Extracts}
+use Rattle.model.specs.Calls.{over, check, condition, evaluate, conditionTruth, loadRows, startRows, runRows, passifyRows, extractRows, Loads, Checks, LooksUp, Runs, Confirms, Passifies, Builds, Evaluates, Extracts}
 use Rattle.model.specs.declared.Loaded.{Loaded}
 use Rattle.model.specs.declared.Checked.{Checked}
 use Rattle.model.specs.declared.Ran.{Ran}
@@ -27,7 +26,25 @@ use Rattle.model.specs.declared.Built.{Built}
 use Rattle.model.specs.declared.Evaluated.{Evaluated}
 use Rattle.model.specs.declared.Extracted.{Extracted}
 
--- DEMAND 1. Refusals are exact, and a refused call changes no lent area but the evaluator's scratch.
+-- DEMAND 1. Every call answers every input, in one way only; its refusals are exact, and a refused call changes no lent area but the
+-- evaluator's scratch.
+
+-- something has the property, and nothing else has it
+abbrev pub One : {A : Type 0} → (A → Type 0) → Type 0
+One {A} P = (x : A) × P x × ((y : A) → P y → y ≡ x)
+
+-- for every input there is an answer, with the areas after it, that meets the call's promise, and no other
+pub record OneAnswer : Type 0 where
+  pub load : (file pipeline rules : List ℕ) → One (λ (x : Loaded × List ℕ × List ℕ). Loads file pipeline rules (x .0) (x .1) (x .2))
+  pub check : (p r : List ℕ) → One (Checks p r)
+  pub lookup : (p r packet : List ℕ) (t : ℕ) → One (LooksUp p r packet t)
+  pub run : (p r packet choices end : List ℕ) → One (λ (x : Ran × List ℕ). Runs p r packet choices end (x .0) (x .1))
+  pub confirm : (p r packet choices : List ℕ) → One (Confirms p r packet choices)
+  pub passify : (p r nodes widths : List ℕ) → One (λ (x : Passified × List ℕ × List ℕ). Passifies p r nodes widths (x .0) (x .1) (x .2))
+  pub condition : (nodes widths entries : List ℕ) → One (λ (x : Built × List ℕ). Builds nodes widths entries (x .0) (x .1))
+  pub evaluate : (entries widths valuation scratch : List ℕ) → One (λ (x : Evaluated × List ℕ). Evaluates entries widths valuation scratch (x .0) (x .1))
+  pub extract : (p r valuation packet choices : List ℕ)
+      → One (λ (x : Extracted × List ℕ × List ℕ). Extracts p r valuation packet choices (x .0) (x .1) (x .2))
 
 -- a row applies at none of its places before i
 abbrev pub WellBefore : Row → ℕ → Type 0
@@ -60,6 +77,7 @@ abbrev pub Kept : Answer (List ℕ) → List ℕ → List ℕ → Type 0
 Kept answer area area′ = (n q : ℕ) → answer ≡ refused n q → area′ ≡ area
 
 pub record Demand1 : Type 0 where
+  pub one : OneAnswer
   pub load : (file pipeline rules : List ℕ) (a : Loaded) (pipeline′ rules′ : List ℕ) → Loads file pipeline rules a pipeline′ rules′
       → Exact (loadRows file (length pipeline) (length rules)) (said.loaded a)
       × Kept (said.loaded a) pipeline pipeline′ × Kept (said.loaded a) rules rules′
@@ -108,23 +126,42 @@ pub record Demand2 : Type 0 where
 
 -- DEMAND 3. The condition is exact, in both directions. A blocked run is no failure: it does not end failed.
 
--- the words of the condition, and that it is false under a valuation
+-- the form isn't too large
+abbrev pub Small : List ℕ → List ℕ → Type 0
+Small p r = length (passiveForm p r .nodes) ≤ formLimit
+
+-- the words that Condition is handed, and those that Evaluate is handed
+abbrev pub formWords : List ℕ → List ℕ → List ℕ
+formWords p r = words (passiveForm p r .nodes)
+
 abbrev pub conditionWords : List ℕ → List ℕ → List ℕ
-conditionWords p r = words (conditionOf (words (passiveForm p r .nodes)))
+conditionWords p r = words (conditionOf (formWords p r))
 
+abbrev pub variableWidths : List ℕ → List ℕ → List ℕ
+variableWidths p r = passiveForm p r .widths
+
+-- the condition is false under a valuation; under some valuation within the variables' widths
 abbrev pub FalseUnder : List ℕ → List ℕ → List ℕ → Type 0
-FalseUnder p r valuation = lastTruth (evaluated (conditionWords p r) (bitsIn (passiveForm p r .widths) valuation)) ≡ false
+FalseUnder p r valuation = conditionTruth (passiveForm p r) valuation ≡ false
 
--- it can be falsified within the variables' widths; the pipeline can fail on a packet within its widths
 abbrev pub Falsifiable : List ℕ → List ℕ → Type 0
-Falsifiable p r = (valuation : List ℕ) × Within (passiveForm p r .widths) valuation × FalseUnder p r valuation
+Falsifiable p r = (valuation : List ℕ) × Within (variableWidths p r) valuation × FalseUnder p r valuation
 
+-- some packet within its widths and some choice list make the run fail
 abbrev pub CanFail : List ℕ → List ℕ → Type 0
 CanFail p r = (packet : List ℕ) × (choices : List ℕ) × (used : ℕ) × Within (packetWidths p) packet × FailsWith p r packet choices used
 
 pub record Demand3 : Type 0 where
-  pub exact : (p r : List ℕ) → Accepted p r → length (passiveForm p r .nodes) ≤ formLimit → Falsifiable p r ↔ CanFail p r
-  pub taken : (p r valuation : List ℕ) → Accepted p r → length (passiveForm p r .nodes) ≤ formLimit
-      → Within (passiveForm p r .widths) valuation → FalseUnder p r valuation
+  -- with room for it, Condition builds the condition, and Evaluate gives its truth under every valuation within the widths
+  pub built : (p r : List ℕ) → Accepted p r → Small p r → (lent : ℕ) → 4 * length (conditionOf (formWords p r)) ≤ lent
+      → condition (formWords p r) (variableWidths p r) lent ≡ done (conditionOf (formWords p r))
+  pub valued : (p r valuation : List ℕ) → Accepted p r → Small p r → Within (variableWidths p r) valuation
+      → (lent : ℕ) → 2 * length (conditionOf (formWords p r)) ≤ lent
+      → told (λ xs. yesOrNo (lastTruth xs)) (evaluate (conditionWords p r) (variableWidths p r) valuation lent)
+      ≡ done (yesOrNo (conditionTruth (passiveForm p r) valuation))
+  -- it can be falsified exactly when the pipeline can fail
+  pub exact : (p r : List ℕ) → Accepted p r → Small p r → Falsifiable p r ↔ CanFail p r
+  -- what is taken out of a valuation that makes it false makes the pipeline fail, with no entry left over
+  pub taken : (p r valuation : List ℕ) → Accepted p r → Small p r → Within (variableWidths p r) valuation → FalseUnder p r valuation
       → Within (packetWidths p) (packetOf p valuation)
       × FailsWith p r (packetOf p valuation) (choicesOf p r valuation) (length (choicesOf p r valuation))

@@ -6,7 +6,8 @@ use mathlib.Core.List.{List, [], _∷_, _++_}
 use lib.ListN.{length}
 use Rattle.model.specs.Lists.{if_then_else_}
 use Rattle.model.specs.Blocks.{Node, node}
-use Rattle.model.specs.Nodes.{opNumber, comparisonNumber, connectiveNumber}
+use Rattle.model.specs.Nodes.{numberOf}
+use Rattle.model.specs.declared.Kind.{Kind}
 use Rattle.model.specs.Trees.{Val, Test}
 use Rattle.model.specs.Passive.{Passive, Equation, _then_, passive}
 
@@ -45,7 +46,7 @@ unfoldable mutual
   pub emitValue : Val → Piece
   emitValue (Val.constant n w) = leaf (node 1 n w 0)
   emitValue (Val.field x) = leaf (node 2 x 0 0)
-  emitValue (Val.binary o a b) = two (emitValue a) (emitValue b) (λ x y. node (opNumber o) x y 0)
+  emitValue (Val.binary o a b) = two (emitValue a) (emitValue b) (λ x y. node (numberOf (Kind.Binary o)) x y 0)
   emitValue (Val.complement a) = one (emitValue a) (λ x. node 9 x 0 0)
   emitValue (Val.slice a high low) = one (emitValue a) (λ x. node 10 x high low)
   emitValue (Val.join a b) = two (emitValue a) (emitValue b) (λ x y. node 11 x y 0)
@@ -53,9 +54,9 @@ unfoldable mutual
 
   pub emitTest : Test → Piece
   emitTest (Test.truth b) = leaf (node 16 (if b then 1 else 0) 0 0)
-  emitTest (Test.compare o a b) = two (emitValue a) (emitValue b) (λ x y. node (comparisonNumber o) x y 0)
+  emitTest (Test.compare o a b) = two (emitValue a) (emitValue b) (λ x y. node (numberOf (Kind.Compare o)) x y 0)
   emitTest (Test.notTest t) = one (emitTest t) (λ x. node 19 x 0 0)
-  emitTest (Test.connect o t u) = two (emitTest t) (emitTest u) (λ x y. node (connectiveNumber o) x y 0)
+  emitTest (Test.connect o t u) = two (emitTest t) (emitTest u) (λ x y. node (numberOf (Kind.Connect o)) x y 0)
 
 -- one side of a join: for each equation its variable, the joined one, equal, assume, and 37 over the side so far, whose node is `side`
 pub record Side : Type 0 where
@@ -86,8 +87,7 @@ emit (Passive.havoced x) = leaf (node 32 0 0 0)
 emit (Passive.assume t) = one (emitTest t) (λ x. node 35 x 0 0)
 emit (Passive.assert t) = one (emitTest t) (λ x. node 36 x 0 0)
 emit (a then b) = two (emit a) (emit b) (λ x y. node 37 x y 0)
-emit (Passive.choice a xs b ys) = sides (emit a) xs (emit b) ys
-emit (Passive.chain a xs b ys) = sides (emit a) xs (emit b) ys
+emit (Passive.choice o a xs b ys) = sides (emit a) xs (emit b) ys
 
 -- a form above so many nodes is too large
 abbrev pub formLimit : ℕ

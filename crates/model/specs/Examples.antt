@@ -1,4 +1,4 @@
--- Document 01, "Examples": the marked ones, and one of our own, as one statement over the definitions, from the words of the blocks.
+-- Document 01, "Examples": the marked ones, and four of our own, as one statement over the definitions, from the words of the blocks.
 -- Its proof stands in proofs/. Assumes nothing: these are definitions.
 use Prim.Native.Nat.{ℕ}
 use mathlib.Core.Path.{_≡_}
@@ -14,7 +14,7 @@ use Rattle.model.specs.Condition.{lastTruth}
 use Rattle.model.specs.Calls as calls
 
 -- What the calls answer, with all the room that they need: the looked-up words; a run's ending, node, entries used and packet; n and V of the passive form;
--- the entry count; the condition's truth under a valuation; the packet and the choices taken out of a valuation.
+-- the condition's entries; its truth under a valuation; the packet and the choices taken out of a valuation.
 abbrev pub plenty : ℕ
 plenty = 10000
 
@@ -30,6 +30,9 @@ sizes p r = told (λ w. length (w .nodes) ∷ length (w .widths) ∷ []) (calls.
 abbrev pub condition : List ℕ → List ℕ → Answer (List Node)
 condition p r = after (calls.passify p r plenty plenty) (λ w. calls.condition (words (w .nodes)) (w .widths) plenty)
 
+abbrev pub entryCount : List ℕ → List ℕ → Answer (List ℕ)
+entryCount p r = told (λ es. length es ∷ []) (condition p r)
+
 abbrev pub truth : List ℕ → List ℕ → List ℕ → Answer Bool
 truth p r valuation =
     after (calls.passify p r plenty plenty) (λ w.
@@ -37,8 +40,11 @@ truth p r valuation =
     after (calls.evaluate (words es) (w .widths) valuation plenty) (λ xs.
     done (lastTruth xs))))
 
-abbrev pub takenOut : List ℕ → List ℕ → List ℕ → Answer (List ℕ)
-takenOut p r valuation = told (λ w. w .packet ++ w .choices) (calls.extract p r valuation plenty plenty)
+abbrev pub packetTaken : List ℕ → List ℕ → List ℕ → Answer (List ℕ)
+packetTaken p r valuation = told (λ w. w .packet) (calls.extract p r valuation plenty plenty)
+
+abbrev pub choicesTaken : List ℕ → List ℕ → List ℕ → Answer (List ℕ)
+choicesTaken p r valuation = told (λ w. w .choices) (calls.extract p r valuation plenty plenty)
 
 -- 1. Three fields: 255 + 1 and 0 - 1 at width 8, 4,294,967,295 + 1 at width 32.
 abbrev pub sums : List ℕ
@@ -142,7 +148,8 @@ keyed =
 abbrev pub keyedRules : List ℕ
 keyedRules = 0 ∷ 16 ∷ 240 ∷ 0 ∷ 0 ∷ 0 ∷ 0 ∷ 0 ∷ 0 ∷ 0 ∷ 7 ∷ 0 ∷ []
 
--- Ours. A choice of two failing asserts.
+-- Ours: a choice of two failing asserts; a choice of skip or a failing assert; a table whose rule, value 16 under mask 240, changes its own
+-- key, field 0, to 32, and whose default fails.
 abbrev pub eitherFails : List ℕ
 eitherFails =
     (1 ∷ 5 ∷ 0 ∷ 0 ∷ 4 ∷ [])
@@ -153,7 +160,33 @@ eitherFails =
     ++ (36 ∷ 2 ∷ 0 ∷ 0 ∷ [])  -- 3: assert
     ++ (38 ∷ 1 ∷ 3 ∷ 0 ∷ [])  -- 4: or
 
-pub record MarkedExamples : Type 0 where
+abbrev pub skipOrFail : List ℕ
+skipOrFail =
+    (1 ∷ 4 ∷ 0 ∷ 0 ∷ 3 ∷ [])
+    ++ (8 ∷ [])
+    ++ (32 ∷ 0 ∷ 0 ∷ 0 ∷ [])  -- 0: skip
+    ++ (16 ∷ 0 ∷ 0 ∷ 0 ∷ [])  -- 1: false
+    ++ (36 ∷ 1 ∷ 0 ∷ 0 ∷ [])  -- 2: assert
+    ++ (38 ∷ 0 ∷ 2 ∷ 0 ∷ [])  -- 3: or
+
+abbrev pub keyChanged : List ℕ
+keyChanged =
+    (1 ∷ 5 ∷ 2 ∷ 1 ∷ 4 ∷ [])
+    ++ (8 ∷ [])
+    ++ (3 ∷ 0 ∷ 8 ∷ 0 ∷ [])  -- 0: parameter 0
+    ++ (33 ∷ 0 ∷ 0 ∷ 0 ∷ [])  -- 1: assigned to field 0
+    ++ (16 ∷ 0 ∷ 0 ∷ 0 ∷ [])  -- 2: false
+    ++ (36 ∷ 2 ∷ 0 ∷ 0 ∷ [])  -- 3: assert
+    ++ (39 ∷ 0 ∷ 0 ∷ 0 ∷ [])  -- 4: apply table 0
+    ++ (1 ∷ 1 ∷ 8 ∷ 0 ∷ [])  -- action 0
+    ++ (3 ∷ 0 ∷ 0 ∷ 0 ∷ [])  -- action 1
+    ++ (1 ∷ 0 ∷ 0 ∷ 0 ∷ 0 ∷ 1 ∷ 0 ∷ 0 ∷ [])  -- table 0
+
+abbrev pub keyChangedRules : List ℕ
+keyChangedRules = 0 ∷ 16 ∷ 240 ∷ 0 ∷ 0 ∷ 0 ∷ 0 ∷ 0 ∷ 0 ∷ 0 ∷ 32 ∷ 0 ∷ []
+
+-- the rows: the marked examples by their numbers, and ours
+pub record ExampleRows : Type 0 where
   pub one : (sum 8 255 1 ≡ 0) × (difference 8 0 1 ≡ 255) × (sum 32 4294967295 1 ≡ 0)
       × (ends sums [] (1 ∷ 1 ∷ 1 ∷ []) [] ≡ done (0 ∷ 0 ∷ 0 ∷ 0 ∷ 255 ∷ 0 ∷ []))
   pub two : (slice 7 4 171 ≡ 10) × (join 4 10 11 ≡ 171) × (ends parts [] (1 ∷ 1 ∷ []) [] ≡ done (0 ∷ 0 ∷ 0 ∷ 10 ∷ 171 ∷ []))
@@ -165,13 +198,21 @@ pub record MarkedExamples : Type 0 where
       × ((valuation : List ℕ) → calls.conditionTruth (passiveForm (bothFalse 35 36) []) valuation ≡ true)
   pub seven : (ends (bothFalse 36 35) [] (5 ∷ []) [] ≡ done (2 ∷ 1 ∷ 0 ∷ 5 ∷ []))
       × ((valuation : List ℕ) → calls.conditionTruth (passiveForm (bothFalse 36 35) []) valuation ≡ false)
-  pub eight : (sizes assignOrSkip [] ≡ done (21 ∷ 3 ∷ []))
-      × (told (λ es. length es ∷ []) (condition assignOrSkip []) ≡ done (64 ∷ []))
+  pub eight : (sizes assignOrSkip [] ≡ done (21 ∷ 3 ∷ [])) × (entryCount assignOrSkip [] ≡ done (64 ∷ []))
       × (truth assignOrSkip [] (5 ∷ 0 ∷ 5 ∷ []) ≡ done false)
-      × (takenOut assignOrSkip [] (5 ∷ 0 ∷ 5 ∷ []) ≡ done (5 ∷ 1 ∷ []))
+      × (packetTaken assignOrSkip [] (5 ∷ 0 ∷ 5 ∷ []) ≡ done (5 ∷ [])) × (choicesTaken assignOrSkip [] (5 ∷ 0 ∷ 5 ∷ []) ≡ done (1 ∷ []))
       × (truth assignOrSkip [] (5 ∷ 1 ∷ 1 ∷ []) ≡ done true)
       × (truth assignOrSkip [] (5 ∷ 1 ∷ 5 ∷ []) ≡ done false)
-  pub nine : (sizes keyed keyedRules ≡ done (35 ∷ 4 ∷ []))
+  pub nine : (sizes keyed keyedRules ≡ done (35 ∷ 4 ∷ [])) × (entryCount keyed keyedRules ≡ done (106 ∷ []))
       × (ends keyed keyedRules (31 ∷ 0 ∷ []) [] ≡ done (0 ∷ 0 ∷ 0 ∷ 31 ∷ 7 ∷ []))
       × (ends keyed keyedRules (32 ∷ 0 ∷ []) [] ≡ done (0 ∷ 0 ∷ 0 ∷ 32 ∷ 0 ∷ []))
-  pub ours : (truth eitherFails [] (5 ∷ []) ≡ done false) × (takenOut eitherFails [] (5 ∷ []) ≡ done (5 ∷ 0 ∷ []))
+  -- where both sides go wrong, the first is taken
+  pub bothSidesFail : (truth eitherFails [] (5 ∷ []) ≡ done false)
+      × (packetTaken eitherFails [] (5 ∷ []) ≡ done (5 ∷ [])) × (choicesTaken eitherFails [] (5 ∷ []) ≡ done (0 ∷ []))
+  -- one side that goes wrong is enough
+  pub oneSideFails : (truth skipOrFail [] (5 ∷ []) ≡ done false) × (choicesTaken skipOrFail [] (5 ∷ []) ≡ done (1 ∷ []))
+  -- a table without rules is its default's body: constant, variable, equal, assume
+  pub noRules : sizes keyless [] ≡ done (4 ∷ 2 ∷ [])
+  -- the packet that hit is not tried again after its key has changed
+  pub keyReadOnce : (ends keyChanged keyChangedRules (31 ∷ []) [] ≡ done (0 ∷ 0 ∷ 0 ∷ 32 ∷ []))
+      × (truth keyChanged keyChangedRules (31 ∷ 32 ∷ 32 ∷ []) ≡ done true)

@@ -84,15 +84,16 @@ unfoldable pub recordsFrom : ℕ → List ℕ → ℕ → ℕ → Held
 recordsFrom zero file at now = fault at
 recordsFrom (suc most) file at now = recordThere file at now (recordsFrom most file) (markedBy file at groups)
 
--- the whole file: each record has at least a byte. One that is too long has one fault more, at the limit: the first is given
-abbrev pub cut : Held → Held
-cut (whole xs) = fault fileLimit
-cut (fault at) = fault (if ltb fileLimit at then fileLimit else at)
+-- a file that is too long has one fault more, at the limit, and the first is given
+abbrev pub tooLong : Held → Held
+tooLong (whole xs) = fault fileLimit
+tooLong (fault at) = fault (if ltb fileLimit at then fileLimit else at)
 
+-- the whole file, which has fewer records than bytes
 unfoldable pub held : List ℕ → Held
 held file =
     let found = recordsFrom (suc (length file)) file 0 0 in
-    if leb (length file) fileLimit then found else cut found
+    if leb (length file) fileLimit then found else tooLong found
 
 -- the words of the records of some groups, and how many records a group has
 unfoldable pub wordsOf : (Group → Bool) → List Record → List ℕ

@@ -45,9 +45,9 @@ earlier (some i) later = some i
 earlier none later = later
 
 -- the first i below n of which the test does not hold
-unfoldable pub first : (ℕ → Bool) → ℕ → Option ℕ
-first test zero = none
-first test (suc n) = earlier (first test n) (if test n then none else some n)
+unfoldable pub firstNot : (ℕ → Bool) → ℕ → Option ℕ
+firstNot test zero = none
+firstNot test (suc n) = earlier (firstNot test n) (if test n then none else some n)
 
 -- those of the list of which the test holds
 unfoldable pub those : (ℕ → Bool) → List ℕ → List ℕ

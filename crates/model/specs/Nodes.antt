@@ -15,63 +15,50 @@ use Rattle.model.specs.declared.Kind.{Kind}
 use Rattle.model.specs.declared.Stage.{Stage}
 use Rattle.model.specs.declared.Sort.{Sort}
 
-pub record Numbered : Type 0 where
-  pub number : ℕ
-  pub kind : Kind
+-- the kinds' numbers
+abbrev pub numberOf : Kind → ℕ
+numberOf Kind.Unknown = 0
+numberOf Kind.Constant = 1  -- a value, b width
+numberOf Kind.Field = 2  -- a; in a passive form or a condition the variable a
+numberOf Kind.Parameter = 3  -- a of width b
+numberOf (Kind.Binary Op.Sum) = 4
+numberOf (Kind.Binary Op.Difference) = 5
+numberOf (Kind.Binary Op.And) = 6
+numberOf (Kind.Binary Op.Or) = 7
+numberOf (Kind.Binary Op.Xor) = 8
+numberOf Kind.Complement = 9
+numberOf Kind.Slice = 10  -- of a, bits b (high) down to c (low)
+numberOf Kind.Join = 11  -- a above b
+numberOf Kind.Select = 12  -- test a, then b, else c
+numberOf Kind.Truth = 16  -- a is 0 or 1
+numberOf (Kind.Compare Comparison.Equal) = 17
+numberOf (Kind.Compare Comparison.Less) = 18
+numberOf Kind.Not = 19
+numberOf (Kind.Connect Connective.And) = 20
+numberOf (Kind.Connect Connective.Or) = 21
+numberOf Kind.Skip = 32
+numberOf Kind.Assign = 33  -- field a the value b
+numberOf Kind.Havoc = 34  -- field a
+numberOf Kind.Assume = 35
+numberOf Kind.Assert = 36
+numberOf Kind.Sequence = 37  -- a then b
+numberOf Kind.Choice = 38  -- of a or b
+numberOf Kind.Apply = 39  -- table a
 
-infix 6 _is_
-abbrev pub _is_ : ℕ → Kind → Numbered
-_is_ n k = record { number = n; kind = k }
-
--- the numbers of the kinds
-abbrev pub kinds : List Numbered
+abbrev pub kinds : List Kind
 kinds =
-    (1 is Kind.Constant)  -- a value, b width
-    ∷ (2 is Kind.Field)  -- a; in a passive form or a condition the variable a
-    ∷ (3 is Kind.Parameter)  -- a of width b
-    ∷ (4 is Kind.Binary Op.Sum)
-    ∷ (5 is Kind.Binary Op.Difference)
-    ∷ (6 is Kind.Binary Op.And)
-    ∷ (7 is Kind.Binary Op.Or)
-    ∷ (8 is Kind.Binary Op.Xor)
-    ∷ (9 is Kind.Complement)
-    ∷ (10 is Kind.Slice)  -- of a, bits b (high) down to c (low)
-    ∷ (11 is Kind.Join)  -- a above b
-    ∷ (12 is Kind.Select)  -- test a, then b, else c
-    ∷ (16 is Kind.Truth)  -- a is 0 or 1
-    ∷ (17 is Kind.Compare Comparison.Equal)
-    ∷ (18 is Kind.Compare Comparison.Less)
-    ∷ (19 is Kind.Not)
-    ∷ (20 is Kind.Connect Connective.And)
-    ∷ (21 is Kind.Connect Connective.Or)
-    ∷ (32 is Kind.Skip)
-    ∷ (33 is Kind.Assign)  -- field a the value b
-    ∷ (34 is Kind.Havoc)  -- field a
-    ∷ (35 is Kind.Assume)
-    ∷ (36 is Kind.Assert)
-    ∷ (37 is Kind.Sequence)  -- a then b
-    ∷ (38 is Kind.Choice)  -- of a or b
-    ∷ (39 is Kind.Apply)  -- table a
+    Kind.Constant ∷ Kind.Field ∷ Kind.Parameter
+    ∷ Kind.Binary Op.Sum ∷ Kind.Binary Op.Difference ∷ Kind.Binary Op.And ∷ Kind.Binary Op.Or ∷ Kind.Binary Op.Xor
+    ∷ Kind.Complement ∷ Kind.Slice ∷ Kind.Join ∷ Kind.Select
+    ∷ Kind.Truth ∷ Kind.Compare Comparison.Equal ∷ Kind.Compare Comparison.Less ∷ Kind.Not
+    ∷ Kind.Connect Connective.And ∷ Kind.Connect Connective.Or
+    ∷ Kind.Skip ∷ Kind.Assign ∷ Kind.Havoc ∷ Kind.Assume ∷ Kind.Assert ∷ Kind.Sequence ∷ Kind.Choice ∷ Kind.Apply
     ∷ []
 
-abbrev pub opNumber : Op → ℕ
-opNumber Op.Sum = 4
-opNumber Op.Difference = 5
-opNumber Op.And = 6
-opNumber Op.Or = 7
-opNumber Op.Xor = 8
-
-abbrev pub comparisonNumber : Comparison → ℕ
-comparisonNumber Comparison.Equal = 17
-comparisonNumber Comparison.Less = 18
-
-abbrev pub connectiveNumber : Connective → ℕ
-connectiveNumber Connective.And = 20
-connectiveNumber Connective.Or = 21
-
-unfoldable pub kindIn : List Numbered → ℕ → Kind
+-- the kind with a number, if one has it
+unfoldable pub kindIn : List Kind → ℕ → Kind
 kindIn [] n = Kind.Unknown
-kindIn (k ∷ ks) n = if eqb n (k .number) then k .kind else kindIn ks n
+kindIn (k ∷ ks) n = if eqb n (numberOf k) then k else kindIn ks n
 
 -- Which kinds a list of nodes may hold: a pipeline all, the others neither 3, 33, 34 nor 39, and a condition no statements.
 abbrev pub pipelineOnly : ℕ → Bool
@@ -94,31 +81,31 @@ pub record Roles : Type 0 where
   pub b : Role
   pub c : Role
 
-abbrev pub words : Role → Role → Role → Roles
-words a b c = record { a = a; b = b; c = c }
+abbrev pub are : Role → Role → Role → Roles
+are a b c = record { a = a; b = b; c = c }
 
 abbrev pub roles : Kind → Roles
-roles Kind.Constant = words number number unused
-roles Kind.Field = words number unused unused
-roles Kind.Parameter = words number number unused
-roles (Kind.Binary o) = words child child unused
-roles Kind.Complement = words child unused unused
-roles Kind.Slice = words child number number
-roles Kind.Join = words child child unused
-roles Kind.Select = words child child child
-roles Kind.Truth = words number unused unused
-roles (Kind.Compare o) = words child child unused
-roles Kind.Not = words child unused unused
-roles (Kind.Connect o) = words child child unused
-roles Kind.Skip = words unused unused unused
-roles Kind.Assign = words number child unused
-roles Kind.Havoc = words number unused unused
-roles Kind.Assume = words child unused unused
-roles Kind.Assert = words child unused unused
-roles Kind.Sequence = words child child unused
-roles Kind.Choice = words child child unused
-roles Kind.Apply = words number unused unused
-roles Kind.Unknown = words unused unused unused
+roles Kind.Constant = are number number unused
+roles Kind.Field = are number unused unused
+roles Kind.Parameter = are number number unused
+roles (Kind.Binary o) = are child child unused
+roles Kind.Complement = are child unused unused
+roles Kind.Slice = are child number number
+roles Kind.Join = are child child unused
+roles Kind.Select = are child child child
+roles Kind.Truth = are number unused unused
+roles (Kind.Compare o) = are child child unused
+roles Kind.Not = are child unused unused
+roles (Kind.Connect o) = are child child unused
+roles Kind.Skip = are unused unused unused
+roles Kind.Assign = are number child unused
+roles Kind.Havoc = are number unused unused
+roles Kind.Assume = are child unused unused
+roles Kind.Assert = are child unused unused
+roles Kind.Sequence = are child child unused
+roles Kind.Choice = are child child unused
+roles Kind.Apply = are number unused unused
+roles Kind.Unknown = are unused unused unused
 
 abbrev pub childIn : Role → ℕ → List ℕ
 childIn child x = x ∷ []

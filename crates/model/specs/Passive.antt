@@ -18,15 +18,19 @@ pub record Equation : Type 0 where
   pub own : ℕ
   pub joined : ℕ
 
--- `havoced x` is a skip that stands for a havoc with the variable x, and `chain` a choice that stands for a table's rule: Extract
--- tells them from a skip and from a choice of the pipeline. Each side of a choice has its join's equations beside it.
+-- what a choice stands for: a choice of the pipeline, or a rule of a table's chain
+pub data Origin : Type 0 where
+  ofPipeline ofChain : Origin
+
+-- `havoced x` is a skip that stands for a havoc with the variable x: Extract tells it from a skip. Each side of a choice has its join's
+-- equations beside it.
 infixl 20 _then_
 pub data Passive : Type 0 where
   skip : Passive
   havoced : ℕ → Passive
   assume assert : Test → Passive
   _then_ : Passive → Passive → Passive
-  choice chain : Passive → List Equation → Passive → List Equation → Passive
+  choice : Origin → Passive → List Equation → Passive → List Equation → Passive
 
 -- each field by its current variable
 unfoldable mutual
@@ -105,11 +109,11 @@ equations (x ∷ xs) (z ∷ zs) =
 
 -- `ws` are the fields' widths
 module _ (ws : List ℕ) (rule : JoinRule) where
-  -- both sides of a choice, joined; `two` makes the choice
-  unfoldable pub join : (Passive → List Equation → Passive → List Equation → Passive) → Vars → Passive → Vars → Passive → Vars → Form
-  join two before left l right r =
+  -- both sides of a choice, joined
+  unfoldable pub join : Origin → Vars → Passive → Vars → Passive → Vars → Form
+  join o before left l right r =
       let zs = joinedVars rule (next r) (before .current) (l .current) (r .current) in
-      form (two left (equations (l .current) zs) right (equations (r .current) zs)) (vars zs (r .widths ++ newWidths (next r) ws zs))
+      form (Passive.choice o left (equations (l .current) zs) right (equations (r .current) zs)) (vars zs (r .widths ++ newWidths (next r) ws zs))
 
   -- `onApply` says what an apply becomes
   module _ (onApply : ℕ → Vars → Form) where
@@ -127,7 +131,7 @@ module _ (ws : List ℕ) (rule : JoinRule) where
     passify (Stmt.choice a b) s =
         let l = passify a s in
         let r = passify b (beside s (l .after)) in
-        join Passive.choice s (l .body) (l .after) (r .body) (r .after)
+        join Origin.ofPipeline s (l .body) (l .after) (r .body) (r .after)
     passify (Stmt.apply t) s = onApply t s
 
 -- action bodies hold no apply
@@ -160,7 +164,7 @@ module _ (p r : List ℕ) (rule : JoinRule) where
       let m = renamedTest (s .current) (matching p r i) in
       let left = bodyForm (callOf p r t (Hit.Rule i)) s in
       let rest = chainForm t is (beside s (left .after)) in
-      join (widths p) rule Passive.chain s (Passive.assume m then left .body) (left .after)
+      join (widths p) rule Origin.ofChain s (Passive.assume m then left .body) (left .after)
       (Passive.assume (Test.notTest m) then rest .body) (rest .after)
 
   abbrev pub tableForm : ℕ → Vars → Form

@@ -6,7 +6,7 @@ use mathlib.Core.Option.{Option, none, some}
 use lib.Dec.{eqb, ltb, leb}
 use lib.ListN.{length, getD}
 use Rattle.bits.specs.Width.{fits, under}
-use Rattle.model.specs.Lists.{if_then_else_, within, word, each, build, joined, every, exists, first, times, among}
+use Rattle.model.specs.Lists.{if_then_else_, within, word, each, build, joined, every, exists, firstNot, times, among}
 use Rattle.model.specs.Blocks.{F, N, A, T, R, root, size, pipelineLength, width, widths, Call, callAt, pipelineNode, plainNode, body, parameterCount, parameterWidth, keyCount, key, defaultPlace, tableOf, value, mask, callPlace}
 use Rattle.model.specs.Nodes.{isWidth, isFormed, isTest, isStatement, sorts, children}
 use Rattle.model.specs.Runs.{packetWidths}
@@ -24,7 +24,8 @@ pub record Row : Type 0 where
   pub well : ℕ → Bool
   pub place : ℕ → ℕ
 
--- a row that looks at each of so many places, and one that looks once
+-- A row that looks at each of so many places, and one that looks once. Tests and places are functions, so that no row is computed
+-- before its turn.
 abbrev pub eachOf : ℕ → ℕ → (ℕ → Bool) → Row
 eachOf number count well = record { number = number; count = count; well = well; place = λ i. i }
 
@@ -38,7 +39,7 @@ given row none later = later
 
 unfoldable pub judge : List Row → Answer (Unit {0})
 judge [] = done tt
-judge (row ∷ rows) = let later = judge rows in given row (first (row .well) (row .count)) later
+judge (row ∷ rows) = let later = judge rows in given row (firstNot (row .well) (row .count)) later
 
 -- 12: so many words are needed, so many are lent
 abbrev pub room : (ℕ → ℕ) → ℕ → Row

@@ -41,21 +41,17 @@ firstThat test (i ∷ is) = if test i then Hit.Rule i else firstThat test is
 abbrev pub hit : List ℕ → List ℕ → List ℕ → ℕ → Hit
 hit p r packet t = firstThat (matches p r packet) (tried r t)
 
--- where its three words stand, action and data: a part of the rule block or of the pipeline block
+-- where its three words stand, action and data: a part of the rule block or of the pipeline block; the words themselves
 abbrev pub partOf : List ℕ → List ℕ → ℕ → Hit → Part
 partOf p r t (Hit.Rule i) = Part.Rules (callPlace r i)
 partOf p r t Hit.Default = Part.Pipeline (defaultPlace p t)
 
--- the words themselves, and what they call
 abbrev pub partWords : List ℕ → List ℕ → Part → List ℕ
 partWords p r (Part.Rules at) = part r at 3
 partWords p r (Part.Pipeline at) = part p at 3
 partWords p r Part.Empty = []
 
-abbrev pub callIn : List ℕ → List ℕ → Part → Call
-callIn p r (Part.Rules at) = callAt r at
-callIn p r (Part.Pipeline at) = callAt p at
-callIn p r Part.Empty = callAt [] 0
-
+-- what runs then: those words as an action with its data
 abbrev pub callOf : List ℕ → List ℕ → ℕ → Hit → Call
-callOf p r t h = callIn p r (partOf p r t h)
+callOf p r t (Hit.Rule i) = callAt r (callPlace r i)
+callOf p r t Hit.Default = callAt p (defaultPlace p t)

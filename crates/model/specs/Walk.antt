@@ -8,7 +8,12 @@ use lib.ListN.{take, length}
 use Rattle.model.specs.Lists.{if_then_else_}
 use Rattle.model.specs.Trees.{Bits, truthOf, bitsIn}
 use Rattle.model.specs.Runs.{packetWidths}
-use Rattle.model.specs.Passive.{Passive, Equation, _then_, passive}
+use Rattle.model.specs.Passive.{Passive, Origin, Equation, _then_, passive}
+
+-- a walked choice of the pipeline gives 0 or 1 for its side, a chain's choice nothing
+abbrev pub entry : Origin → ℕ → List ℕ
+entry Origin.ofPipeline side = side ∷ []
+entry Origin.ofChain side = []
 
 module _ (at : ℕ → Bits) where
   -- a side's join equations hold
@@ -23,8 +28,7 @@ module _ (at : ℕ → Bits) where
   goesOn (Passive.assume t) = truthOf at t
   goesOn (Passive.assert t) = truthOf at t
   goesOn (a then b) = goesOn a && goesOn b
-  goesOn (Passive.choice a xs b ys) = (goesOn a && equal xs) || (goesOn b && equal ys)
-  goesOn (Passive.chain a xs b ys) = (goesOn a && equal xs) || (goesOn b && equal ys)
+  goesOn (Passive.choice o a xs b ys) = (goesOn a && equal xs) || (goesOn b && equal ys)
 
   unfoldable pub goesWrong : Passive → Bool
   goesWrong Passive.skip = false
@@ -32,19 +36,16 @@ module _ (at : ℕ → Bits) where
   goesWrong (Passive.assume t) = false
   goesWrong (Passive.assert t) = not (truthOf at t)
   goesWrong (a then b) = goesWrong a || (goesOn a && goesWrong b)
-  goesWrong (Passive.choice a xs b ys) = goesWrong a || goesWrong b
-  goesWrong (Passive.chain a xs b ys) = goesWrong a || goesWrong b
+  goesWrong (Passive.choice o a xs b ys) = goesWrong a || goesWrong b
 
-  -- The walk going on: each walked havoc gives its variable's value, each walked choice of the pipeline 0 or 1 for its side, a chain's
-  -- choice nothing. The side is the first that goes on, with its join's equations.
+  -- The walk going on: each walked havoc gives its variable's value. In a choice, the first side that goes on, with its join's equations.
   unfoldable pub walkOn : Passive → List ℕ
   walkOn Passive.skip = []
   walkOn (Passive.havoced x) = at x .number ∷ []
   walkOn (Passive.assume t) = []
   walkOn (Passive.assert t) = []
   walkOn (a then b) = walkOn a ++ walkOn b
-  walkOn (Passive.choice a xs b ys) = if goesOn a && equal xs then 0 ∷ walkOn a else 1 ∷ walkOn b
-  walkOn (Passive.chain a xs b ys) = if goesOn a && equal xs then walkOn a else walkOn b
+  walkOn (Passive.choice o a xs b ys) = if goesOn a && equal xs then entry o 0 ++ walkOn a else entry o 1 ++ walkOn b
 
   -- The walk looking for the wrong: in a sequence the left if that goes wrong, else the left going on and then the right; in a choice the
   -- first side that goes wrong.
@@ -54,8 +55,7 @@ module _ (at : ℕ → Bits) where
   walkWrong (Passive.assume t) = []
   walkWrong (Passive.assert t) = []
   walkWrong (a then b) = if goesWrong a then walkWrong a else walkOn a ++ walkWrong b
-  walkWrong (Passive.choice a xs b ys) = if goesWrong a then 0 ∷ walkWrong a else 1 ∷ walkWrong b
-  walkWrong (Passive.chain a xs b ys) = if goesWrong a then walkWrong a else walkWrong b
+  walkWrong (Passive.choice o a xs b ys) = if goesWrong a then entry o 0 ++ walkWrong a else entry o 1 ++ walkWrong b
 
 -- the packet, from the first variables, and the choices
 abbrev pub packetOf : List ℕ → List ℕ → List ℕ

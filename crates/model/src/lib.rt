@@ -89,7 +89,7 @@ pub enum Refusal {
     Rule(usize),
     Packet(usize),
     Room(usize),
-    Valuation(usize),
+    Variables(usize),
     Short(usize),
     Entry(usize),
     True,
