@@ -1,6 +1,6 @@
--- Document 01, "What a call owes its caller", and the three demands on the product, each as one statement over the definitions that the calls' contracts cite. The proofs stand
--- elsewhere. p is a pipeline block and r a rule block, as words; a name with a prime is an area after the call.
--- Assumes nothing: these are definitions.
+-- Document 01, "What a call owes its caller", and the three demands on the product, each as one statement over the definitions that
+-- the calls' contracts cite. The proofs stand elsewhere. p is a pipeline block and r a rule block, as words; a name with a prime is an
+-- area after the call. Assumes nothing: these are definitions.
 use Prim.Native.Nat.{ℕ, _*_, _≤_, _<_}
 use mathlib.Core.Path.{_≡_}
 use mathlib.Core.Logic.{_↔_, _⊎_}
