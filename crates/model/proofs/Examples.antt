@@ -1,4 +1,4 @@
--- The marked examples, and ours: each row by computation. Assumes nothing.
+-- The marked examples, the listing's, and ours: each row by computation. Assumes nothing.
 use mathlib.Core.Path.{refl}
 use Rattle.model.specs.Examples.{ExampleRows}
 use Rattle.model.proofs.Compute.{compute}
@@ -16,6 +16,7 @@ examples =
       seven = (refl, λ valuation. refl);
       eight = (refl, refl, refl, refl, refl, refl, refl);
       nine = (refl, refl, refl, refl);
+      listed = refl;
       bothSidesFail = (refl, refl, refl);
       oneSideFails = (refl, refl);
       noRules = refl;

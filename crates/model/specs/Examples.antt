@@ -1,4 +1,4 @@
--- Document 01, "Examples": the marked ones, and four of our own, as one statement over the definitions, from the words of the blocks.
+-- Document 01, "Examples": the marked ones, the listing's, and four of our own, as one statement over the definitions, from the words of the blocks.
 -- Its proof stands in proofs/. Assumes nothing: these are definitions.
 use Prim.Native.Nat.{ℕ}
 use mathlib.Core.Path.{_≡_}
@@ -12,6 +12,7 @@ use Rattle.model.specs.Emit.{passiveForm}
 use Rattle.model.specs.Answers.{Answer, done, after, told}
 use Rattle.model.specs.Condition.{lastTruth}
 use Rattle.model.specs.Calls as calls
+use Rattle.model.specs.Listing.{listing}
 
 -- What the calls answer, with all the room that they need: the looked-up words; a run's ending, node, entries used and packet; n and V of the passive form;
 -- the condition's entries; its truth under a valuation; the packet and the choices taken out of a valuation.
@@ -185,7 +186,25 @@ keyChanged =
 abbrev pub keyChangedRules : List ℕ
 keyChangedRules = 0 ∷ 16 ∷ 240 ∷ 0 ∷ 0 ∷ 0 ∷ 0 ∷ 0 ∷ 0 ∷ 0 ∷ 32 ∷ 0 ∷ []
 
--- the rows: the marked examples by their numbers, and ours
+-- The listing's example: one 8-bit field, nodes 0 field 0, 1 constant 10, 2 less(0, 1), 3 assert 2, root 3; the file, and the text.
+abbrev pub listedFile : List ℕ
+listedFile =
+    (0x46 ∷ 0x44 ∷ 0x00 ∷ 0x00 ∷ 0x00 ∷ 0x08 ∷ [])  -- FD 8
+    ++ (0x4E ∷ 0x44 ∷ 0x00 ∷ 0x00 ∷ 0x00 ∷ 0x02 ∷ 0x00 ∷ 0x00 ∷ 0x00 ∷ 0x00 ∷ 0x00 ∷ 0x00 ∷ 0x00 ∷ 0x00 ∷ 0x00 ∷ 0x00 ∷ 0x00 ∷ 0x00 ∷ [])  -- ND 2 0 0 0
+    ++ (0x4E ∷ 0x44 ∷ 0x00 ∷ 0x00 ∷ 0x00 ∷ 0x01 ∷ 0x00 ∷ 0x00 ∷ 0x00 ∷ 0x0A ∷ 0x00 ∷ 0x00 ∷ 0x00 ∷ 0x08 ∷ 0x00 ∷ 0x00 ∷ 0x00 ∷ 0x00 ∷ [])  -- ND 1 10 8 0
+    ++ (0x4E ∷ 0x44 ∷ 0x00 ∷ 0x00 ∷ 0x00 ∷ 0x12 ∷ 0x00 ∷ 0x00 ∷ 0x00 ∷ 0x00 ∷ 0x00 ∷ 0x00 ∷ 0x00 ∷ 0x01 ∷ 0x00 ∷ 0x00 ∷ 0x00 ∷ 0x00 ∷ [])  -- ND 18 0 1 0
+    ++ (0x4E ∷ 0x44 ∷ 0x00 ∷ 0x00 ∷ 0x00 ∷ 0x24 ∷ 0x00 ∷ 0x00 ∷ 0x00 ∷ 0x02 ∷ 0x00 ∷ 0x00 ∷ 0x00 ∷ 0x00 ∷ 0x00 ∷ 0x00 ∷ 0x00 ∷ 0x00 ∷ [])  -- ND 36 2 0 0
+    ++ (0x52 ∷ 0x54 ∷ 0x00 ∷ 0x00 ∷ 0x00 ∷ 0x03 ∷ [])  -- RT 3
+
+abbrev pub listedText : List ℕ
+listedText =
+    (0x70 ∷ 0x61 ∷ 0x73 ∷ 0x73 ∷ 0x69 ∷ 0x76 ∷ 0x65 ∷ 0x20 ∷ 0x34 ∷ 0x20 ∷ 0x76 ∷ 0x61 ∷ 0x72 ∷ 0x69 ∷ 0x61 ∷ 0x62 ∷ 0x6C ∷ 0x65 ∷ 0x73 ∷ 0x20 ∷ 0x31 ∷ 0x20 ∷ 0x63 ∷ 0x6F ∷ 0x6E ∷ 0x64 ∷ 0x69 ∷ 0x74 ∷ 0x69 ∷ 0x6F ∷ 0x6E ∷ 0x20 ∷ 0x31 ∷ 0x33 ∷ 0x0A ∷ [])  -- passive 4 variables 1 condition 13
+    ++ (0x30 ∷ 0x20 ∷ 0x32 ∷ 0x20 ∷ 0x30 ∷ 0x20 ∷ 0x30 ∷ 0x20 ∷ 0x30 ∷ 0x0A ∷ [])  -- 0 2 0 0 0
+    ++ (0x31 ∷ 0x20 ∷ 0x31 ∷ 0x20 ∷ 0x31 ∷ 0x30 ∷ 0x20 ∷ 0x38 ∷ 0x20 ∷ 0x30 ∷ 0x0A ∷ [])  -- 1 1 10 8 0
+    ++ (0x32 ∷ 0x20 ∷ 0x31 ∷ 0x38 ∷ 0x20 ∷ 0x30 ∷ 0x20 ∷ 0x31 ∷ 0x20 ∷ 0x30 ∷ 0x0A ∷ [])  -- 2 18 0 1 0
+    ++ (0x33 ∷ 0x20 ∷ 0x33 ∷ 0x36 ∷ 0x20 ∷ 0x32 ∷ 0x20 ∷ 0x30 ∷ 0x20 ∷ 0x30 ∷ 0x0A ∷ [])  -- 3 36 2 0 0
+
+-- the rows: the marked examples by their numbers, the listing's, and ours
 pub record ExampleRows : Type 0 where
   pub one : (sum 8 255 1 ≡ 0) × (difference 8 0 1 ≡ 255) × (sum 32 4294967295 1 ≡ 0)
       × (ends sums [] (1 ∷ 1 ∷ 1 ∷ []) [] ≡ done (0 ∷ 0 ∷ 0 ∷ 0 ∷ 255 ∷ 0 ∷ []))
@@ -206,6 +225,7 @@ pub record ExampleRows : Type 0 where
   pub nine : (sizes keyed keyedRules ≡ done (35 ∷ 4 ∷ [])) × (entryCount keyed keyedRules ≡ done (106 ∷ []))
       × (ends keyed keyedRules (31 ∷ 0 ∷ []) [] ≡ done (0 ∷ 0 ∷ 0 ∷ 31 ∷ 7 ∷ []))
       × (ends keyed keyedRules (32 ∷ 0 ∷ []) [] ≡ done (0 ∷ 0 ∷ 0 ∷ 32 ∷ 0 ∷ []))
+  pub listed : listing listedFile ≡ listedText
   -- where both sides go wrong, the first is taken
   pub bothSidesFail : (truth eitherFails [] (5 ∷ []) ≡ done false)
       × (packetTaken eitherFails [] (5 ∷ []) ≡ done (5 ∷ [])) × (choicesTaken eitherFails [] (5 ∷ []) ≡ done (0 ∷ []))
