@@ -19,6 +19,8 @@ examples =
       listed = refl;
       bothSidesFail = (refl, refl, refl);
       oneSideFails = (refl, refl);
+      wrongAllTheSame = (refl, refl);
+      onWithEquations = refl;
       noRules = refl;
       keyReadOnce = (refl, refl);
     }

@@ -1,11 +1,12 @@
 -- The nine calls: what each answers, and what each area holds afterwards, for all inputs. An area that is lent is given by its words
 -- before the call. Assumes nothing: these are definitions.
-use Prim.Native.Nat.{ℕ, _*_}
+use Prim.Native.Nat.{ℕ, _+_, _*_}
 use mathlib.Core.Path.{_≡_}
 use mathlib.Core.Bool.{Bool, true, false, not, _&&_}
 use mathlib.Core.List.{List, [], _∷_, _++_}
 use lib.Dec.{eqb, ltb, leb}
 use lib.ListN.{length, drop, replicate}
+use denote.Ref.{RefT}
 use Rattle.model.specs.Lists.{if_then_else_}
 use Rattle.model.specs.Blocks.{F, T, Node, words}
 use Rattle.model.specs.Files.{Held, whole, fault, held, pipelineOf, rulesOf}
@@ -90,8 +91,19 @@ lookup p r packet t =
     let found = if ltb t (T p) then there else Part.Empty in
     unlessRefused (judge (startRows p r packet)) found
 
-pub record LooksUp (p r packet : List ℕ) (t : ℕ) (part : List ℕ) : Type 0 where
-  pub answers : part ≡ partWords p r (lookup p r packet t)
+-- Which part is returned: its words, and where it begins, so many words of four bytes into the block that it is a part of. A slice is a
+-- reference here, with its pointer. An empty part may stand anywhere.
+abbrev pub wordsInto : RefT (List ℕ) → ℕ → ℕ × ℕ
+wordsInto s n = (s .ptr .0, n * 4 + s .ptr .1)
+
+abbrev pub Begins : Part → RefT (List ℕ) → RefT (List ℕ) → RefT (List ℕ) → Type 0
+Begins (Part.Rules at) p r part = part .ptr ≡ wordsInto r at
+Begins (Part.Pipeline at) p r part = part .ptr ≡ wordsInto p at
+Begins Part.Empty p r part = Unit {0}
+
+pub record LooksUp (p r : RefT (List ℕ)) (packet : List ℕ) (t : ℕ) (part : RefT (List ℕ)) : Type 0 where
+  pub words : part .now ≡ partWords (p .now) (r .now) (lookup (p .now) (r .now) packet t)
+  pub begins : Begins (lookup (p .now) (r .now) packet t) p r part
 
 -- RUN: 2 to 11, 12, then 14 or 15 as met
 pub record Ended : Type 0 where

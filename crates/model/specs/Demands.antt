@@ -7,6 +7,7 @@ use mathlib.Core.Logic.{_↔_, _⊎_}
 use mathlib.Core.Bool.{true, false}
 use mathlib.Core.List.{List, [], _∷_, _++_}
 use lib.ListN.{length, replicate}
+use denote.Ref.{RefT}
 use Rattle.model.specs.Blocks.{F, T, words}
 use Rattle.model.specs.Good.{Within}
 use Rattle.model.specs.Runs.{State, Outcome, packetWidths, pipelineRun}
@@ -33,11 +34,16 @@ use Rattle.model.specs.declared.Extracted.{Extracted}
 abbrev pub One : {A : Type 0} → (A → Type 0) → Type 0
 One {A} P = (x : A) × P x × ((y : A) → P y → y ≡ x)
 
+-- two parts have the same words and, where they have any, begin at the same place: an empty part may stand anywhere
+abbrev pub SamePart : RefT (List ℕ) → RefT (List ℕ) → Type 0
+SamePart x y = (x .now ≡ y .now) × ((x .now ≡ []) ⊎ (x .ptr ≡ y .ptr))
+
 -- for every input there is an answer, with the areas after it, that meets the call's promise, and no other
 pub record OneAnswer : Type 0 where
   pub load : (file pipeline rules : List ℕ) → One (λ (x : Loaded × List ℕ × List ℕ). Loads file pipeline rules (x .0) (x .1) (x .2))
   pub check : (p r : List ℕ) → One (Checks p r)
-  pub lookup : (p r packet : List ℕ) (t : ℕ) → One (LooksUp p r packet t)
+  pub lookup : (p r : RefT (List ℕ)) (packet : List ℕ) (t : ℕ) → ((x : RefT (List ℕ)) × LooksUp p r packet t x)
+      × ((x y : RefT (List ℕ)) → LooksUp p r packet t x → LooksUp p r packet t y → SamePart x y)
   pub run : (p r packet choices end : List ℕ) → One (λ (x : Ran × List ℕ). Runs p r packet choices end (x .0) (x .1))
   pub confirm : (p r packet choices : List ℕ) → One (Confirms p r packet choices)
   pub passify : (p r nodes widths : List ℕ) → One (λ (x : Passified × List ℕ × List ℕ). Passifies p r nodes widths (x .0) (x .1) (x .2))
@@ -82,8 +88,8 @@ pub record Demand1 : Type 0 where
       → Exact (loadRows file (length pipeline) (length rules)) (said.loaded a)
       × Kept (said.loaded a) pipeline pipeline′ × Kept (said.loaded a) rules rules′
   pub check : (p r : List ℕ) (a : Checked) → Checks p r a → Exact (checkRows p r) (said.checked a)
-  pub lookup : (p r packet : List ℕ) (t : ℕ) (part : List ℕ) → LooksUp p r packet t part
-      → (part ≡ []) ↔ (((n : ℕ) × (q : ℕ) × First (startRows p r packet) n q) ⊎ (T p ≤ t))
+  pub lookup : (p r : RefT (List ℕ)) (packet : List ℕ) (t : ℕ) (part : RefT (List ℕ)) → LooksUp p r packet t part
+      → (part .now ≡ []) ↔ (((n : ℕ) × (q : ℕ) × First (startRows (p .now) (r .now) packet) n q) ⊎ (T (p .now) ≤ t))
   pub run : (p r packet choices end : List ℕ) (a : Ran) (end′ : List ℕ) → Runs p r packet choices end a end′
       → ExactOnRun (runRows p r packet (length end)) (pipelineRun p r packet choices) (said.ran a) × Kept (said.ran a) end end′
   pub confirm : (p r packet choices : List ℕ) (a : Confirmed) → Confirms p r packet choices a

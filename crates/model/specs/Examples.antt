@@ -1,4 +1,4 @@
--- Document 01, "Examples": the marked ones, the listing's, and four of our own, as one statement over the definitions, from the words of the blocks.
+-- Document 01, "Examples": the marked ones, the listing's, and six of our own, as one statement over the definitions, from the words of the blocks.
 -- Its proof stands in proofs/. Assumes nothing: these are definitions.
 use Prim.Native.Nat.{ℕ}
 use mathlib.Core.Path.{_≡_}
@@ -149,7 +149,8 @@ keyed =
 abbrev pub keyedRules : List ℕ
 keyedRules = 0 ∷ 16 ∷ 240 ∷ 0 ∷ 0 ∷ 0 ∷ 0 ∷ 0 ∷ 0 ∷ 0 ∷ 7 ∷ 0 ∷ []
 
--- Ours: a choice of two failing asserts; a choice of skip or a failing assert; a table whose rule, value 16 under mask 240, changes its own
+-- Ours: a choice of two failing asserts; of skip or a failing assert; of a failing assert that an assume false follows, or a failing
+-- assert; a table whose rule, value 16 under mask 240, changes its own
 -- key, field 0, to 32, and whose default fails.
 abbrev pub eitherFails : List ℕ
 eitherFails =
@@ -169,6 +170,19 @@ skipOrFail =
     ++ (16 ∷ 0 ∷ 0 ∷ 0 ∷ [])  -- 1: false
     ++ (36 ∷ 1 ∷ 0 ∷ 0 ∷ [])  -- 2: assert
     ++ (38 ∷ 0 ∷ 2 ∷ 0 ∷ [])  -- 3: or
+
+abbrev pub failsBeforeBlock : List ℕ
+failsBeforeBlock =
+    (1 ∷ 8 ∷ 0 ∷ 0 ∷ 7 ∷ [])
+    ++ (8 ∷ [])
+    ++ (16 ∷ 0 ∷ 0 ∷ 0 ∷ [])  -- 0: false
+    ++ (36 ∷ 0 ∷ 0 ∷ 0 ∷ [])  -- 1: assert
+    ++ (16 ∷ 0 ∷ 0 ∷ 0 ∷ [])  -- 2: false
+    ++ (35 ∷ 2 ∷ 0 ∷ 0 ∷ [])  -- 3: assume
+    ++ (37 ∷ 1 ∷ 3 ∷ 0 ∷ [])  -- 4: then
+    ++ (16 ∷ 0 ∷ 0 ∷ 0 ∷ [])  -- 5: false
+    ++ (36 ∷ 5 ∷ 0 ∷ 0 ∷ [])  -- 6: assert
+    ++ (38 ∷ 4 ∷ 6 ∷ 0 ∷ [])  -- 7: or
 
 abbrev pub keyChanged : List ℕ
 keyChanged =
@@ -231,6 +245,10 @@ pub record ExampleRows : Type 0 where
       × (packetTaken eitherFails [] (5 ∷ []) ≡ done (5 ∷ [])) × (choicesTaken eitherFails [] (5 ∷ []) ≡ done (0 ∷ []))
   -- one side that goes wrong is enough
   pub oneSideFails : (truth skipOrFail [] (5 ∷ []) ≡ done false) × (choicesTaken skipOrFail [] (5 ∷ []) ≡ done (1 ∷ []))
+  -- a side goes wrong though what follows its wrong can't go on
+  pub wrongAllTheSame : (truth failsBeforeBlock [] (5 ∷ []) ≡ done false) × (choicesTaken failsBeforeBlock [] (5 ∷ []) ≡ done (0 ∷ []))
+  -- a side goes on only with its join's equations: of example 8, at (5, 1, 5), the second
+  pub onWithEquations : choicesTaken assignOrSkip [] (5 ∷ 1 ∷ 5 ∷ []) ≡ done (1 ∷ [])
   -- a table without rules is its default's body: constant, variable, equal, assume
   pub noRules : sizes keyless [] ≡ done (4 ∷ 2 ∷ [])
   -- the packet that hit is not tried again after its key has changed

@@ -47,8 +47,8 @@ pub data Tree : Type 0 where
   statement : Stmt → Tree
   nothing : Tree
 
--- A tree read as one of the three. What is of another sort reads as a constant of width 0, as false, as skip; Check accepts no
--- block in which that happens.
+-- A tree read as one of the three. What is of another sort reads as a constant of width 0, as false, as skip: a block in which that
+-- happens is one that Check refuses.
 abbrev pub asValue : Tree → Val
 asValue (value v) = v
 asValue (test t) = constant 0 0
