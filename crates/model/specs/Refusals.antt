@@ -101,8 +101,10 @@ standsUnder p us i k = among i (getD us (body p k) [])
 unfoldable pub placedWell : List ℕ → List (List ℕ) → ℕ → Bool
 placedWell p us i =
     let n = pipelineNode p i in
-    let parameterWell = exists (λ k. standsUnder p us i k && ltb (n .a) (parameterCount p k) && eqb (n .b) (parameterWidth p k (n .a))) (A p) in
-    let applyWell = not (exists (standsUnder p us i) (A p)) in
+    let has : ℕ → Bool = λ k. ltb (n .a) (parameterCount p k) && eqb (n .b) (parameterWidth p k (n .a)) in
+    let inBody = exists (standsUnder p us i) (A p) in
+    let parameterWell = inBody && every (λ k. if standsUnder p us i k then has k else true) (A p) in
+    let applyWell = not inBody in
     if eqb (n .kind) 3 then parameterWell else
     if eqb (n .kind) 39 then applyWell else
     true
