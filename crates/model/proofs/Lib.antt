@@ -1,3 +1,4 @@
 -- Laws of the definitions, for the crates above.
 pub mod Compute
 pub mod Examples
+pub mod GoodForms
