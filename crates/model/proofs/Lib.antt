@@ -2,3 +2,8 @@
 pub mod Compute
 pub mod Examples
 pub mod GoodForms
+pub mod Booleans
+pub mod Renaming
+pub mod Fits
+pub mod Variables
+pub mod Joins
