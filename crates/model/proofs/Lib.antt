@@ -7,3 +7,7 @@ pub mod Renaming
 pub mod Fits
 pub mod Variables
 pub mod Joins
+pub mod Equations
+pub mod Runs
+pub mod Reading
+pub mod Soundness
