@@ -11,3 +11,5 @@ pub mod Equations
 pub mod Runs
 pub mod Reading
 pub mod Soundness
+pub mod Valuations
+pub mod Completeness
