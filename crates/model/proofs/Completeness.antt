@@ -7,7 +7,6 @@ use mathlib.Core.Bool.{Bool, true, false, not, _&&_}
 use mathlib.Core.List.{List, [], _∷_, _++_, map}
 use mathlib.Core.Logic.{_⊎_, inl, inr, _≢_}
 use lib.ListN.{getD, set, length, length-append, length-map}
-use lib.Seq.{ext-getD, getD-append-seam}
 use borrow.Author.Tests.{eq-eqb, ltb-true}
 use Rattle.bits.specs.Width.{fits}
 use Rattle.model.specs.Lists.{if_then_else_}
@@ -19,7 +18,7 @@ use Rattle.model.specs.Walk.{equal, goesOn, goesWrong}
 use Rattle.model.proofs.Booleans.{true-both, or-left, or-right}
 use Rattle.model.proofs.Renaming.{getD-map, map-set}
 use Rattle.model.proofs.Fits.{Sized, sized}
-use Rattle.model.proofs.Variables.{var, Front, front-trans, front-append, Ready}
+use Rattle.model.proofs.Variables.{var, Front, front-trans, front-append, fresh-width, Ready}
 use Rattle.model.proofs.Equations.{valued, map-equal}
 use Rattle.model.proofs.Reading.{reads-bits, reads-truth}
 use Rattle.model.proofs.Runs.{Run, inOrder}
@@ -187,9 +186,6 @@ module _ (ws widths : List ℕ) where
       longer : suc (next e) ≡ next after
       longer = omega (arith, length-append (e .widths) (getD ws i 0 ∷ []))
 
-      new-wide : getD widths (next e) 0 ≡ getD ws i 0
-      new-wide = front .same (next e) (omega (arith, longer)) ∙ getD-append-seam (e .widths) (getD ws i 0) [] 0
-
       module _ (v : ℕ → ℕ) (f : Fits widths v) (packet : List ℕ) (q : map v (e .current) ≡ packet) where
         abbrev Stores : ℕ → (ℕ → ℕ) → Type 0
         Stores c w = (w (next e) ≡ c) × (map w (e .current) ≡ packet) × (map w (after .current) ≡ set packet i c)
@@ -197,7 +193,7 @@ module _ (ws widths : List ℕ) where
         stores : (c : ℕ) → c < 2 ^ getD ws i 0 → Extends e after v (Stores c)
         stores c h = record {
           to = changed v (next e) c;
-          to-fits = changed-fits widths v (next e) c f (rw new-wide h);
+          to-fits = changed-fits widths v (next e) c f (rw (fresh-width e i (getD ws i 0) widths front) h);
           agrees = changed-below v (next e) c;
           holds = λ w a.
               let x : w (next e) ≡ c = a (next e) (omega (arith, longer)) ∙ changed-here v (next e) c in

@@ -13,3 +13,5 @@ pub mod Reading
 pub mod Soundness
 pub mod Valuations
 pub mod Completeness
+pub mod Choices
+pub mod Statements

@@ -25,6 +25,7 @@ module _ (ws vars : List ℕ) where
   module _ (at at′ : ℕ → Bits) (same : (i : ℕ) → i < length ws → at (getD vars i 0) ≡ at′ i) where
     mutual
       unfolding bitsOf renamed GoodValue
+
       pub renamed-bits : (v : Val) → GoodValue ws v → bitsOf at (renamed vars v) ≡ bitsOf at′ v
       renamed-bits (Val.constant n w) g = refl
       renamed-bits (Val.field i) g = same i g
@@ -58,6 +59,7 @@ module _ (ws vars : List ℕ) where
 
     mutual
       unfolding renamed GoodValue widthOfValue
+
       pub renamed-good : (v : Val) → GoodValue ws v → GoodValue Ws (renamed vars v)
       renamed-good (Val.constant n w) g = g
       renamed-good (Val.field i) g = there i g

@@ -35,6 +35,14 @@ front-trans a b = record {
 pub front-append : (l m : List ℕ) → Front l (l ++ m)
 front-append l m = record { shorter = omega (arith, length-append l m); same = λ x h. List·getD-append l m 0 x h }
 
+-- a new variable's number and width
+pub fresh-there : (e : Vars) (f w : ℕ) (widths : List ℕ) → Front (fresh e f w .widths) widths → next e < length widths
+fresh-there e f w widths front = omega (arith, length-append (e .widths) (w ∷ []), front .shorter)
+
+pub fresh-width : (e : Vars) (f w : ℕ) (widths : List ℕ) → Front (fresh e f w .widths) widths → getD widths (next e) 0 ≡ w
+fresh-width e f w widths front =
+    front .same (next e) (omega (arith, length-append (e .widths) (w ∷ []))) ∙ getD-append-seam (e .widths) w [] 0
+
 -- a place of a list in which one place was set: that one, or another
 pub set-cases : (l : List ℕ) (f a i : ℕ) → f < length l
     → ((i ≡ f) × (getD (set l f a) i 0 ≡ a)) ⊎ ((i ≢ f) × (getD (set l f a) i 0 ≡ getD l i 0))

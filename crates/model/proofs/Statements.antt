@@ -1,0 +1,265 @@
+-- A form is exact for a run: its variables are in order, its statement is well formed, it is sound and complete. One law for each way in
+-- which runs are put together, and one induction over statements. Assumes nothing.
+use Prim.Native.Nat.{ℕ, _≤_, _<_}
+use native.Mathlib.Nat.{lt-of-lt-of-le}
+use mathlib.Core.Path.{_≡_, refl, sym, ap, _∙_}
+use mathlib.Core.Bool.{Bool}
+use mathlib.Core.List.{List, [], _∷_, _++_, map}
+use lib.ListN.{getD, length}
+use lib.Seq.{getD-append-seam}
+use Rattle.model.specs.Trees.{Val, Test, Stmt, truthOf, bitsIn}
+use Rattle.model.specs.Good.{widthOfValue, GoodValue, GoodTest, Good}
+use Rattle.model.specs.Runs.{State, state, Outcome, run}
+use Rattle.model.specs.Passive.{Passive, Origin, Vars, next, fresh, beside, Form, form, JoinRule, joinedVars, equations, join, passify, renamedTest, _then_}
+use Rattle.model.proofs.GoodForms.{AllWidths, GoodEquations, GoodPassive}
+use Rattle.model.proofs.Variables.{var, Front, front-refl, front-trans, front-append, Ready, Steps, steps-refl, steps-trans, ready-fresh, steps-fresh, fresh-there, fresh-width}
+use Rattle.model.proofs.Joins.{JoinLaws, ready-joined, steps-joined}
+use Rattle.model.proofs.Equations.{valued, good-equations}
+use Rattle.model.proofs.Reading.{reads-good, reads-width, reads-good-test, reads-truth}
+use Rattle.model.proofs.Runs.{Run, inOrder, eitherOf, whether, goes-same, fails-same}
+use Rattle.model.proofs.Valuations.{Fits, Agree}
+use Rattle.model.proofs.Soundness.{Sound, sound-both, sound-choice, sound-chain, sound-skip, sound-havoc, sound-assign, sound-assume, sound-assert}
+use Rattle.model.proofs.Completeness.{Complete, complete-both, complete-skip, complete-havoc, complete-assign, complete-assume, complete-assert, still-truth}
+use Rattle.model.proofs.Choices.{complete-choice, complete-chain}
+
+module _ (ws : List ℕ) (sizes : AllWidths ws) where
+  pub record Exact (go : Run) (make : Vars → Form) : Type 0 where
+    pub ready : (e : Vars) → Ready ws e → Ready ws (make e .after)
+    pub steps : (e : Vars) → Ready ws e → Steps ws e (make e .after)
+    pub good : (widths : List ℕ) (e : Vars) → Ready ws e → Front (make e .after .widths) widths → GoodPassive widths (make e .body)
+    pub sound : (widths : List ℕ) (v : ℕ → ℕ) → Fits widths v → (e : Vars) → Ready ws e → Front (make e .after .widths) widths
+        → Sound ws widths v go e (make e)
+    pub complete : (widths : List ℕ) (e : Vars) → Ready ws e → Front (make e .after .widths) widths → Complete ws widths go e (make e)
+
+  module _ (a b : Run) (f g : Vars → Form) (x : Exact a f) (y : Exact b g) where
+    pub exact-both : Exact (inOrder a b) (λ e. let l = f e in let r = g (l .after) in form (l .body then r .body) (r .after))
+    unfolding GoodPassive
+    exact-both = record {
+      ready = λ e k. y .ready _ (x .ready e k);
+      steps = λ e k. steps-trans ws (x .steps e k) (y .steps _ (x .ready e k));
+      good = λ widths e k front.
+          let kl = x .ready e k in
+          (x .good widths e k (front-trans (y .steps _ kl .front) front), y .good widths _ kl front);
+      sound = λ widths v fits e k front.
+          let kl = x .ready e k in
+          sound-both ws widths v a b e (f e) (g (f e .after)) (x .sound widths v fits e k (front-trans (y .steps _ kl .front) front)) (y .sound widths v fits _ kl front);
+      complete = λ widths e k front.
+          let kl = x .ready e k in
+          complete-both ws widths a b e (f e) (g (f e .after)) (x .steps e k .front .shorter) (y .steps _ kl .front .shorter)
+          (x .complete widths e k (front-trans (y .steps _ kl .front) front)) (y .complete widths _ kl front);
+    }
+
+  -- what a choice and a rule of a chain have in common: two sides from the same variables, joined
+  module _ (rule : JoinRule) (laws : JoinLaws rule) (a b : Run) (f g : Vars → Form) (x : Exact a f) (y : Exact b g) where
+    abbrev second : Vars → Form
+    second e = g (beside e (f e .after))
+
+    module _ (e : Vars) (k : Ready ws e) where
+      kl : Ready ws (f e .after)
+      kl = x .ready e k
+
+      -- the second side starts from the old variables, numbering on
+      ready-beside : Ready ws (beside e (f e .after))
+      ready-beside =
+          let front = x .steps e k .front in
+          record {
+            size = k .size;
+            low = λ i h. lt-of-lt-of-le (k .low i h) (front .shorter);
+            wide = λ i h. front .same (var e i) (k .low i h) ∙ k .wide i h;
+            apart = k .apart;
+            sized = kl .sized;
+          }
+
+      kr : Ready ws (second e .after)
+      kr = y .ready (beside e (f e .after)) ready-beside
+
+      right : Steps ws (beside e (f e .after)) (second e .after)
+      right = y .steps (beside e (f e .after)) ready-beside
+
+      module _ (o : Origin) (p q : Passive) where
+        abbrev both : Form
+        both = join ws rule o e p (f e .after) q (second e .after)
+
+        ready-both : Ready ws (both .after)
+        unfolding join
+        ready-both = ready-joined ws rule laws sizes e (f e .after) (second e .after) k kl kr (x .steps e k) right
+
+        steps-both : Steps ws e (both .after)
+        unfolding join
+        steps-both = steps-joined ws rule laws sizes e (f e .after) (second e .after) k kl kr (x .steps e k) right
+
+        module _ (widths : List ℕ) (front : Front (both .after .widths) widths) where
+          front-right : Front (second e .after .widths) widths
+          unfolding join
+          front-right = front-trans (front-append (second e .after .widths) _) front
+
+          front-left : Front (f e .after .widths) widths
+          front-left = front-trans (right .front) front-right
+
+          front-before : Front (e .widths) widths
+          front-before = front-trans (x .steps e k .front) front-left
+
+          equations-good : (s : Vars) → Ready ws s → Front (s .widths) widths → GoodEquations widths (equations (s .current) (both .after .current))
+          equations-good s ks fs =
+              good-equations widths (s .current) (both .after .current)
+              (λ i h.
+              let b : i < length ws = rw (ks .size) at h in
+              let kz = ready-both in (
+                lt-of-lt-of-le (ks .low i b) (fs .shorter),
+                lt-of-lt-of-le (kz .low i b) (front .shorter),
+                (fs .same (var s i) (ks .low i b) ∙ ks .wide i b) ∙ sym (front .same (var (both .after) i) (kz .low i b) ∙ kz .wide i b),
+              ))
+
+          good-both : GoodPassive widths p → GoodPassive widths q → GoodPassive widths (both .body)
+          unfolding join GoodPassive
+          good-both gp gq = (gp, equations-good (f e .after) kl front-left, gq, equations-good (second e .after) kr front-right)
+
+        lengths : (length (f e .after .current) ≡ length (both .after .current)) × (length (second e .after .current) ≡ length (both .after .current))
+        lengths = (kl .size ∙ sym (ready-both .size), kr .size ∙ sym (ready-both .size))
+
+    abbrev choiceForm : Vars → Form
+    choiceForm e = join ws rule Origin.ofPipeline e (f e .body) (f e .after) (second e .body) (second e .after)
+
+    pub exact-choice : Exact (eitherOf a b) choiceForm
+    unfolding join
+    exact-choice = record {
+      ready = λ e k. ready-both e k Origin.ofPipeline (f e .body) (second e .body);
+      steps = λ e k. steps-both e k Origin.ofPipeline (f e .body) (second e .body);
+      good = λ widths e k front.
+          let fl = front-left e k Origin.ofPipeline (f e .body) (second e .body) widths front in
+          let fr = front-right e k Origin.ofPipeline (f e .body) (second e .body) widths front in
+          good-both e k Origin.ofPipeline (f e .body) (second e .body) widths front (x .good widths e k fl) (y .good widths _ (ready-beside e k) fr);
+      sound = λ widths v fits e k front.
+          let fl = front-left e k Origin.ofPipeline (f e .body) (second e .body) widths front in
+          let fr = front-right e k Origin.ofPipeline (f e .body) (second e .body) widths front in
+          sound-choice ws widths v a b rule e (f e) (second e) (x .sound widths v fits e k fl) (y .sound widths v fits _ (ready-beside e k) fr)
+          (lengths e k Origin.ofPipeline (f e .body) (second e .body));
+      complete = λ widths e k front.
+          let fl = front-left e k Origin.ofPipeline (f e .body) (second e .body) widths front in
+          let fr = front-right e k Origin.ofPipeline (f e .body) (second e .body) widths front in
+          complete-choice ws widths rule laws sizes e (f e) (second e) k (kl e k) (kr e k) (x .steps e k) (right e k) a b
+          (x .complete widths e k fl) (y .complete widths _ (ready-beside e k) fr) front;
+    }
+
+    module _ (test : List ℕ → Bool) (t : Test) (gt : GoodTest ws t) (same : (packet : List ℕ) → test packet ≡ truthOf (bitsIn ws packet) t) where
+      abbrev m : Vars → Test
+      m e = renamedTest (e .current) t
+
+      abbrev first : Vars → Passive
+      first e = Passive.assume (m e) then f e .body
+
+      abbrev rest : Vars → Passive
+      rest e = Passive.assume (Test.notTest (m e)) then second e .body
+
+      pub exact-chain : Exact (whether test a b) (λ e. join ws rule Origin.ofChain e (first e) (f e .after) (rest e) (second e .after))
+      unfolding join GoodPassive GoodTest
+      exact-chain = record {
+        ready = λ e k. ready-both e k Origin.ofChain (first e) (rest e);
+        steps = λ e k. steps-both e k Origin.ofChain (first e) (rest e);
+        good = λ widths e k front.
+            let fl = front-left e k Origin.ofChain (first e) (rest e) widths front in
+            let fr = front-right e k Origin.ofChain (first e) (rest e) widths front in
+            let gm = reads-good-test ws widths e k (front-before e k Origin.ofChain (first e) (rest e) widths front) t gt in
+            good-both e k Origin.ofChain (first e) (rest e) widths front (gm, x .good widths e k fl) (gm, y .good widths _ (ready-beside e k) fr);
+        sound = λ widths v fits e k front.
+            let fl = front-left e k Origin.ofChain (first e) (rest e) widths front in
+            let fr = front-right e k Origin.ofChain (first e) (rest e) widths front in
+            let fb = front-before e k Origin.ofChain (first e) (rest e) widths front in
+            sound-chain ws widths v a b rule e (f e) (second e) (x .sound widths v fits e k fl) (y .sound widths v fits _ (ready-beside e k) fr)
+            test (m e) (reads-truth ws widths e k fb v t gt ∙ sym (same _)) (lengths e k Origin.ofChain (first e) (rest e));
+        complete = λ widths e k front.
+            let fl = front-left e k Origin.ofChain (first e) (rest e) widths front in
+            let fr = front-right e k Origin.ofChain (first e) (rest e) widths front in
+            let fb = front-before e k Origin.ofChain (first e) (rest e) widths front in
+            complete-chain ws widths rule laws sizes e (f e) (second e) k (kl e k) (kr e k) (x .steps e k) (right e k) a b
+            (x .complete widths e k fl) (y .complete widths _ (ready-beside e k) fr) test (m e)
+            (λ v packet eq w d. still-truth ws widths e k fb v packet eq t gt w d ∙ sym (same packet)) front;
+      }
+
+  -- the same run, told otherwise
+  pub exact-same : (a b : Run) (f : Vars → Form) → ((s : State) → b s ≡ a s) → Exact a f → Exact b f
+  exact-same a b f same x = record {
+    ready = x .ready;
+    steps = x .steps;
+    good = x .good;
+    sound = λ widths v fits e k front.
+        let y = x .sound widths v fits e k front in
+        record { on = λ o. goes-same b a (λ left u. same _) (y .on o); wrong = λ o. fails-same b a (λ left u. same _) (y .wrong o) };
+    complete = λ widths e k front. record { meets = λ v fits t eq. rw (same t) (x .complete widths e k front .meets v fits t eq) };
+  }
+
+  -- statements, where tables are exact
+  module _ (rule : JoinRule) (laws : JoinLaws rule) (onApply : ℕ → State → Outcome) (formApply : ℕ → Vars → Form) (tables : ℕ)
+      (applies : (t : ℕ) → t < tables → Exact (onApply t) (formApply t)) where
+    abbrev Stated : Stmt → Type 0
+    Stated s = Exact (run ws onApply s) (passify ws rule formApply s)
+
+    exact-skip : Stated Stmt.skip
+    unfolding run passify GoodPassive
+    exact-skip = record {
+      ready = λ e k. k;
+      steps = λ e k. steps-refl ws e;
+      good = λ widths e k front. tt;
+      sound = λ widths v fits e k front. sound-skip ws widths v onApply rule formApply e;
+      complete = λ widths e k front. complete-skip ws widths onApply rule formApply e k front;
+    }
+
+    exact-assume : (n : ℕ) (t : Test) → GoodTest ws t → Stated (Stmt.assume n t)
+    unfolding run passify GoodPassive
+    exact-assume n t g = record {
+      ready = λ e k. k;
+      steps = λ e k. steps-refl ws e;
+      good = λ widths e k front. reads-good-test ws widths e k front t g;
+      sound = λ widths v fits e k front. sound-assume ws widths v onApply rule formApply e k front n t g;
+      complete = λ widths e k front. complete-assume ws widths onApply rule formApply e k front n t g;
+    }
+
+    exact-assert : (n : ℕ) (t : Test) → GoodTest ws t → Stated (Stmt.assert n t)
+    unfolding run passify GoodPassive
+    exact-assert n t g = record {
+      ready = λ e k. k;
+      steps = λ e k. steps-refl ws e;
+      good = λ widths e k front. reads-good-test ws widths e k front t g;
+      sound = λ widths v fits e k front. sound-assert ws widths v onApply rule formApply e k front n t g;
+      complete = λ widths e k front. complete-assert ws widths onApply rule formApply e k front n t g;
+    }
+
+    exact-havoc : (i : ℕ) → i < length ws → Stated (Stmt.havoc i)
+    unfolding run passify GoodPassive
+    exact-havoc i h = record {
+      ready = λ e k. ready-fresh ws e i sizes h k;
+      steps = λ e k. steps-fresh ws e i sizes h k;
+      good = λ widths e k front. tt;
+      sound = λ widths v fits e k front.
+          sound-havoc ws widths v onApply rule formApply e i (rw (fresh-width e i (getD ws i 0) widths front) at (fits (next e)));
+      complete = λ widths e k front. complete-havoc ws widths onApply rule formApply e k i front;
+    }
+
+    exact-assign : (i : ℕ) (x : Val) → i < length ws → GoodValue ws x → widthOfValue ws x ≡ getD ws i 0 → Stated (Stmt.assign i x)
+    unfolding run passify GoodPassive GoodValue widthOfValue
+    exact-assign i x h g w = record {
+      ready = λ e k. ready-fresh ws e i sizes h k;
+      steps = λ e k. steps-fresh ws e i sizes h k;
+      good = λ widths e k front.
+          let fb = front-trans (front-append (e .widths) _) front in (
+            reads-good ws widths e k fb x g,
+            fresh-there e i (getD ws i 0) widths front,
+            reads-width ws widths e k fb x g ∙ w ∙ sym (fresh-width e i (getD ws i 0) widths front),
+          );
+      sound = λ widths v fits e k front. sound-assign ws widths v onApply rule formApply e k (front-trans (front-append (e .widths) _) front) i x g;
+      complete = λ widths e k front. complete-assign ws widths onApply rule formApply e k i front x g w;
+    }
+
+    pub exact-statement : (s : Stmt) → Good ws tables s → Stated s
+    unfolding run passify Good
+    exact-statement Stmt.skip g = exact-skip
+    exact-statement (Stmt.assign i x) g = exact-assign i x (g .0) (g .1) (g .2)
+    exact-statement (Stmt.havoc i) g = exact-havoc i g
+    exact-statement (Stmt.assume n t) g = exact-assume n t g
+    exact-statement (Stmt.assert n t) g = exact-assert n t g
+    exact-statement (Stmt.sequence a b) g =
+        exact-both (run ws onApply a) (run ws onApply b) (passify ws rule formApply a) (passify ws rule formApply b) (exact-statement a (g .0)) (exact-statement b (g .1))
+    exact-statement (Stmt.choice a b) g =
+        exact-choice rule laws (run ws onApply a) (run ws onApply b) (passify ws rule formApply a) (passify ws rule formApply b)
+        (exact-statement a (g .0)) (exact-statement b (g .1))
+    exact-statement (Stmt.apply t) g = applies t g
