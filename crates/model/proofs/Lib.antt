@@ -3,3 +3,4 @@ pub mod Compute
 pub mod Examples
 pub mod GoodForms
 pub mod Lists
+pub mod NodeList
