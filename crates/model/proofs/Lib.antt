@@ -4,3 +4,5 @@ pub mod Examples
 pub mod GoodForms
 pub mod Lists
 pub mod NodeList
+pub mod Entries
+pub mod Evaluation

@@ -1,5 +1,5 @@
 -- Laws of the lists that the definitions make: front to back, place by place, piece by piece. Assumes nothing.
-use Prim.Native.Nat.{ℕ, zero, suc, _+_, _*_, _<_}
+use Prim.Native.Nat.{ℕ, zero, suc, _+_, _*_, _-_, _<_}
 use native.Mathlib.Nat.{not-suc-le-zero, eq-or-lt-of-le, le-of-suc-le-suc, mul-le-mul-left}
 use native.Mathlib.Omega.{arith}
 use mathlib.Core.Logic.{_⊎_, inl, inr}
@@ -29,6 +29,11 @@ module _ {A : Type 0} (f : List A → ℕ → A) where
       go : (i ≡ n) ⊎ (i < n) → (i < n → getD (build f n) i d ≡ made i) → getD (build f n ++ (f (build f n) n ∷ [])) i d ≡ made i
       go (inl e) before = rw e (getD-at (build f n) (f (build f n) n) [] d n (length-build n))
       go (inr l) before = List·getD-append (build f n) (f (build f n) n ∷ []) d i (rw length-build l) ∙ before l
+
+  pub build-last : (n i : ℕ) (d : A) → n ≡ suc i → getD (build f n) (length (build f n) - 1) d ≡ made i
+  build-last n i d e =
+      let k : length (build f n) - 1 ≡ i = omega (arith, length-build n) in
+      ap (λ (j : ℕ). getD (build f n) j d) k ∙ build-at n i d (omega arith)
 
 -- ---- `each`
 
