@@ -96,41 +96,49 @@ module _ (vals : ℕ → Bits) (entries : ℕ → Node) where
         → entries (3 * i) ≡ node (numberOf k) (renumberedIn on (roles k .a) a) (renumberedIn on (roles k .b) b) (renumberedIn on (roles k .c) c)
     own-entry k {i} {a} {b} {c} h l e = first-entry l e ∙ expression-entry k i a b c h
 
+    own-bits : (k : Kind) {i a b c : ℕ} → allowed Stage.Condition (numberOf k) ≡ true → i < n → nodes i ≡ node (numberOf k) a b c
+        → comes (3 * i)
+        ≡ bitsBy vals (λ x. getD (build step (3 * i)) x (ofWidth 0 0)) k (renumberedIn on (roles k .a) a) (renumberedIn on (roles k .b) b) (renumberedIn on (roles k .c) c)
+    own-bits k h l e = entry-bits k h (own-entry k h l e)
+
+    -- a child's first entry, as its parent's reads it
+    child-bits : {i x : ℕ} {v : Bits} → i < n → (x < n → comes (3 * x) ≡ v) → x < i → getD (build step (3 * i)) (3 * x) (ofWidth 0 0) ≡ v
+    child-bits {i} {x} l f h = read (3 * i) (3 * x) (omega arith) (f (omega arith))
+
     -- ---- values and tests
 
     mutual
       unfolding SpansValue SpansTest bitsOf truthOf times
 
       value-bits : (v : Val) (at i : ℕ) → SpansValue nodes v at i → i < n → comes (3 * i) ≡ bitsOf vals v
-      value-bits (Val.constant m w) at i s l = entry-bits Kind.Constant refl (own-entry Kind.Constant refl l (s .is))
-      value-bits (Val.field x) at i s l = entry-bits Kind.Field refl (own-entry Kind.Field refl l (s .is))
+      value-bits (Val.constant m w) at i s l = own-bits Kind.Constant refl l (s .is)
+      value-bits (Val.field x) at i s l = own-bits Kind.Field refl l (s .is)
       value-bits (Val.binary o a b) at i s l =
-          let x = read (3 * i) (3 * s .child) (omega arith) (value-bits a _ _ (s .spans) (omega arith)) in
-          let y = read (3 * i) (3 * s .rest .child) (omega arith) (value-bits b _ _ (s .rest .spans) (omega arith)) in
-          entry-bits (Kind.Binary o) (binary-allowed o) (own-entry (Kind.Binary o) (binary-allowed o) l (s .rest .rest .is)) ∙ ap₂ (binaryBits o) x y
+          let x = child-bits l (λ h. value-bits a _ _ (s .spans) h) (omega arith) in
+          let y = child-bits l (λ h. value-bits b _ _ (s .rest .spans) h) (omega arith) in
+          own-bits (Kind.Binary o) (binary-allowed o) l (s .rest .rest .is) ∙ ap₂ (binaryBits o) x y
       value-bits (Val.complement a) at i s l =
-          let x = read (3 * i) (3 * s .child) (omega arith) (value-bits a _ _ (s .spans) (omega arith)) in
-          entry-bits Kind.Complement refl (own-entry Kind.Complement refl l (s .rest .is)) ∙ ap complementBits x
+          let x = child-bits l (λ h. value-bits a _ _ (s .spans) h) (omega arith) in
+          own-bits Kind.Complement refl l (s .rest .is) ∙ ap complementBits x
       value-bits (Val.slice a high low) at i s l =
-          let x = read (3 * i) (3 * s .child) (omega arith) (value-bits a _ _ (s .spans) (omega arith)) in
-          entry-bits Kind.Slice refl (own-entry Kind.Slice refl l (s .rest .is)) ∙ ap (λ (v : Bits). sliceBits v high low) x
+          let x = child-bits l (λ h. value-bits a _ _ (s .spans) h) (omega arith) in
+          own-bits Kind.Slice refl l (s .rest .is) ∙ ap (λ (v : Bits). sliceBits v high low) x
       value-bits (Val.join a b) at i s l =
-          let x = read (3 * i) (3 * s .child) (omega arith) (value-bits a _ _ (s .spans) (omega arith)) in
-          let y = read (3 * i) (3 * s .rest .child) (omega arith) (value-bits b _ _ (s .rest .spans) (omega arith)) in
-          entry-bits Kind.Join refl (own-entry Kind.Join refl l (s .rest .rest .is)) ∙ ap₂ joinBits x y
+          let x = child-bits l (λ h. value-bits a _ _ (s .spans) h) (omega arith) in
+          let y = child-bits l (λ h. value-bits b _ _ (s .rest .spans) h) (omega arith) in
+          own-bits Kind.Join refl l (s .rest .rest .is) ∙ ap₂ joinBits x y
       value-bits (Val.select t a b) at i s l =
-          let x = read (3 * i) (3 * s .child) (omega arith) (test-says t _ _ (s .spans) (omega arith) .is) in
-          let y = read (3 * i) (3 * s .rest .child) (omega arith) (value-bits a _ _ (s .rest .spans) (omega arith)) in
-          let z = read (3 * i) (3 * s .rest .rest .child) (omega arith) (value-bits b _ _ (s .rest .rest .spans) (omega arith)) in
-          entry-bits Kind.Select refl (own-entry Kind.Select refl l (s .rest .rest .rest .is)) ∙ rw (x, y, z, is-bit (truthOf vals t))
+          let x = child-bits l (λ h. test-says t _ _ (s .spans) h .is) (omega arith) in
+          let y = child-bits l (λ h. value-bits a _ _ (s .rest .spans) h) (omega arith) in
+          let z = child-bits l (λ h. value-bits b _ _ (s .rest .rest .spans) h) (omega arith) in
+          own-bits Kind.Select refl l (s .rest .rest .rest .is) ∙ rw (x, y, z, is-bit (truthOf vals t))
 
       test-says : (t : Test) (at i : ℕ) → SpansTest nodes t at i → i < n → Says (3 * i) (truthOf vals t)
       test-says (Test.truth b) at i s l = subst (Says (3 * i)) (is-bit b) (truth-says (own-entry Kind.Truth refl l (s .is)))
       test-says (Test.compare o a b) at i s l =
-          let x = read (3 * i) (3 * s .child) (omega arith) (value-bits a _ _ (s .spans) (omega arith)) in
-          let y = read (3 * i) (3 * s .rest .child) (omega arith) (value-bits b _ _ (s .rest .spans) (omega arith)) in
-          let k = own-entry (Kind.Compare o) (compare-allowed o) l (s .rest .rest .is) in
-          record { is = entry-bits (Kind.Compare o) (compare-allowed o) k ∙ ap₂ (λ (v w : Bits). bit (compareBits o v w)) x y }
+          let x = child-bits l (λ h. value-bits a _ _ (s .spans) h) (omega arith) in
+          let y = child-bits l (λ h. value-bits b _ _ (s .rest .spans) h) (omega arith) in
+          record { is = own-bits (Kind.Compare o) (compare-allowed o) l (s .rest .rest .is) ∙ ap₂ (λ (v w : Bits). bit (compareBits o v w)) x y }
       test-says (Test.notTest t) at i s l = not-says (own-entry Kind.Not refl l (s .rest .is)) (omega arith) (test-says t _ _ (s .spans) (omega arith))
       test-says (Test.connect o t u) at i s l =
           let x = test-says t _ _ (s .spans) (omega arith) in
