@@ -9,11 +9,11 @@ use lib.Dec.{eqb}
 use lib.ListN.{getD, length}
 use Rattle.model.specs.Lists.{build, times}
 use Rattle.model.specs.Blocks.{Node, node, words, plainNode}
-use Rattle.model.specs.Nodes.{numberOf, allowed, roles, renumberedIn}
+use Rattle.model.specs.Nodes.{numberOf, allowed}
 use Rattle.model.specs.Trees.{Val, Test, Bits, ofWidth, binaryBits, complementBits, sliceBits, joinBits, compareBits, connected, bitsOf, truthOf, bitsIn}
 use Rattle.model.specs.Passive.{Passive, Equation, _then_}
 use Rattle.model.specs.Emit.{emit, top}
-use Rattle.model.specs.Condition.{nodeCount, no, notEntry, on, entriesOf, conditionOf, bit, isOn, bitsBy, entryBits, evaluated}
+use Rattle.model.specs.Condition.{nodeCount, no, notEntry, entriesOf, conditionOf, bit, isOn, bitsBy, entryBits, evaluated}
 use Rattle.model.specs.Walk.{equal, goesOn, goesWrong}
 use Rattle.model.specs.Calls.{conditionTruth}
 use Rattle.model.specs.declared.Connective.{Connective}
@@ -21,7 +21,7 @@ use Rattle.model.specs.declared.Kind.{Kind}
 use Rattle.model.specs.declared.Stage.{Stage}
 use Rattle.model.proofs.Lists.{made, build-at, build-last}
 use Rattle.model.proofs.NodeList.{nodeCount-words, kindOf-number, binary-allowed, compare-allowed, connect-allowed, SpansValue, SpansTest, Tied, tied-order, SpansStatement, gives-statement, emitted-spans, equality}
-use Rattle.model.proofs.Entries.{expression-entry, length-condition, entryAt, owned-entry, last-entry}
+use Rattle.model.proofs.Entries.{overEntries, expression-entry, length-condition, entryAt, owned-entry, last-entry}
 
 -- ---- bits of tests
 
@@ -93,12 +93,11 @@ module _ (vals : ℕ → Bits) (entries : ℕ → Node) where
     first-entry {i} l e = ap entries (sym (add-zero (3 * i))) ∙ each-entry 0 (omega arith) l e
 
     own-entry : (k : Kind) {i a b c : ℕ} → allowed Stage.Condition (numberOf k) ≡ true → i < n → nodes i ≡ node (numberOf k) a b c
-        → entries (3 * i) ≡ node (numberOf k) (renumberedIn on (roles k .a) a) (renumberedIn on (roles k .b) b) (renumberedIn on (roles k .c) c)
+        → entries (3 * i) ≡ overEntries k a b c
     own-entry k {i} {a} {b} {c} h l e = first-entry l e ∙ expression-entry k i a b c h
 
     own-bits : (k : Kind) {i a b c : ℕ} → allowed Stage.Condition (numberOf k) ≡ true → i < n → nodes i ≡ node (numberOf k) a b c
-        → comes (3 * i)
-        ≡ bitsBy vals (λ x. getD (build step (3 * i)) x (ofWidth 0 0)) k (renumberedIn on (roles k .a) a) (renumberedIn on (roles k .b) b) (renumberedIn on (roles k .c) c)
+        → let m = overEntries k a b c in comes (3 * i) ≡ bitsBy vals (λ x. getD (build step (3 * i)) x (ofWidth 0 0)) k (m .a) (m .b) (m .c)
     own-bits k h l e = entry-bits k h (own-entry k h l e)
 
     -- a child's first entry, as its parent's reads it
@@ -238,4 +237,5 @@ condition-truth q ws valuation =
     let vals = bitsIn ws valuation in
     let entries = words (conditionOf (words ns)) in
     let count : nodeCount entries ≡ suc (3 * length ns) = omega (arith, nodeCount-words (conditionOf (words ns)), length-condition ns) in
-    ap isOn (build-last (step vals (entryAt ns)) (nodeCount entries) (3 * length ns) (ofWidth 0 0) count ∙ condition-says q vals .is) ∙ is-bit (not (goesWrong vals q))
+    let last = build-last (step vals (entryAt ns)) (nodeCount entries) (3 * length ns) (ofWidth 0 0) count in
+    ap isOn (last ∙ condition-says q vals .is) ∙ is-bit (not (goesWrong vals q))
