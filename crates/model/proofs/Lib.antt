@@ -1,8 +1,9 @@
--- Laws of the definitions, for the crates above.
+-- Laws of the definitions, for the crates above. A file cites files above it.
 pub mod Compute
 pub mod Examples
-pub mod GoodForms
 pub mod Booleans
+pub mod Lists
+pub mod GoodForms
 pub mod Renaming
 pub mod Fits
 pub mod Variables
@@ -15,3 +16,6 @@ pub mod Valuations
 pub mod Completeness
 pub mod Choices
 pub mod Statements
+pub mod NodeList
+pub mod Entries
+pub mod Evaluation
