@@ -2,3 +2,5 @@
 pub mod Compute
 pub mod Examples
 pub mod GoodForms
+pub mod Lists
+pub mod Every
