@@ -1,17 +1,17 @@
 -- What holds at every place below a number, and of every element of a list. Assumes nothing.
-use Prim.Native.Nat.{ℕ, zero, suc, _+_, _<_, _≤_}
-use native.Mathlib.Nat.{not-suc-le-zero, le-of-suc-le-suc, eq-or-lt-of-le}
+use Prim.Native.Nat.{ℕ, zero, suc, _<_, _≤_}
+use native.Mathlib.Nat.{not-suc-le-zero, le-of-suc-le-suc, eq-or-lt-of-le, lt-of-lt-of-le}
 use native.Mathlib.Omega.{arith}
 use mathlib.Core.Path.{_≡_, refl, sym, _∙_}
 use mathlib.Core.Bool.{Bool, true, false, _&&_}
 use mathlib.Core.Logic.{_⊎_, inl, inr}
 use mathlib.Core.List.{List, [], _∷_, _++_}
 use lib.Dec.{eqb, ltb}
-use lib.ListN.{getD, length, length-append, List·getD-append}
-use lib.Seq.{getD-at}
+use lib.ListN.{getD, List·getD-eq-default}
 use borrow.Author.Tests.{eq-eqb, lt-ltb}
-use Rattle.model.specs.Lists.{if_then_else_, each, every, exists, those, times, among}
+use Rattle.model.specs.Lists.{if_then_else_, build, each, every, exists, those, times, among}
 use Rattle.model.specs.Tables.{placed, ordered}
+use Rattle.model.proofs.Lists.{length-build, build-at}
 
 -- ---- places
 
@@ -39,20 +39,21 @@ module _ (test : ℕ → Bool) where
       go (inl k) false q rec = rw (← k) e
       go (inr k) false q rec = cc (rec k)
 
-module _ {A : Type 0} (f : ℕ → A) where
-  pub length-each : (n : ℕ) → length (each f n) ≡ n
-  unfolding each
-  length-each zero = refl
-  length-each (suc n) = length-append (each f n) _ ∙ rw (length-each n) (omega arith)
+-- a list made front to back: an earlier one has what a later one has, and past its end there is nothing
+module _ {A : Type 0} (f : List A → ℕ → A) where
+  pub build-before : (i n j : ℕ) (d : A) → j < i → i ≤ n → getD (build f i) j d ≡ getD (build f n) j d
+  build-before i n j d h k = build-at f i j d h ∙ sym (build-at f n j d (lt-of-lt-of-le h k))
 
-  pub each-at : (n i : ℕ) (d : A) → i < n → getD (each f n) i d ≡ f i
-  unfolding each
-  each-at zero i d h = absurd (not-suc-le-zero h)
-  each-at (suc n) i d h = go (eq-or-lt-of-le (le-of-suc-le-suc h)) (each-at n i d)
-    where
-      go : (i ≡ n) ⊎ (i < n) → (i < n → getD (each f n) i d ≡ f i) → getD (each f n ++ (f n ∷ [])) i d ≡ f i
-      go (inl e) rec = rw e (getD-at (each f n) (f n) [] d n (length-each n))
-      go (inr k) rec = List·getD-append (each f n) _ d i (rw length-each k) ∙ rec k
+  pub build-past : (n j : ℕ) (d : A) → n ≤ j → getD (build f n) j d ≡ d
+  build-past n j d h = List·getD-eq-default (build f n) d (rw length-build h)
+
+-- what holds of a number wherever it holds of all below
+pub from-below : (P : ℕ → Type 0) → ((i : ℕ) → ((j : ℕ) → j < i → P j) → P i) → (i : ℕ) → P i
+from-below P step i = step i (upTo i)
+  where
+    upTo : (n j : ℕ) → j < n → P j
+    upTo zero j h = absurd (not-suc-le-zero h)
+    upTo (suc n) j h = step j (λ m k. upTo n m (lt-of-lt-of-le k (le-of-suc-le-suc h)))
 
 -- ---- elements
 

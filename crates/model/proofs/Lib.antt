@@ -3,4 +3,6 @@ pub mod Compute
 pub mod Examples
 pub mod GoodForms
 pub mod Lists
+pub mod Refusals
 pub mod Every
+pub mod Sorts
