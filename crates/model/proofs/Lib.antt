@@ -6,3 +6,4 @@ pub mod Lists
 pub mod Refusals
 pub mod Every
 pub mod Sorts
+pub mod Decoded
