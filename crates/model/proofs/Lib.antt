@@ -7,3 +7,4 @@ pub mod Refusals
 pub mod Every
 pub mod Sorts
 pub mod Decoded
+pub mod Accepted

@@ -2,14 +2,15 @@
 -- Assumes nothing.
 use Prim.Native.Nat.{ℕ, _+_, _-_, _^_, _<_, _≤_}
 use native.Mathlib.Omega.{arith}
-use mathlib.Core.Path.{_≡_, refl, sym, _∙_}
+use mathlib.Core.Path.{_≡_, refl, sym, ap, _∙_}
 use mathlib.Core.Bool.{Bool, true, false, _&&_, false≢true}
-use mathlib.Core.List.{List, _++_}
+use mathlib.Core.List.{List, [], _∷_, _++_}
 use lib.Dec.{eqb, ltb, leb}
 use lib.ListN.{getD, length}
 use borrow.Author.Tests.{eqb-true, ltb-true, leb-true, lt-ltb}
 use Rattle.bits.specs.Width.{fits}
-use Rattle.model.specs.Nodes.{roles, childIn, widthOf, isTest, isStatement, isWidth, isValue, alike, only, sortBy}
+use Rattle.model.specs.Lists.{if_then_else_}
+use Rattle.model.specs.Nodes.{numberOf, kindIn, roles, childIn, widthOf, isTest, isStatement, isWidth, isValue, alike, only, sortBy}
 use Rattle.model.specs.Trees.{Val, Tree, asValue, asTest, asStatement, treeBy}
 use Rattle.model.specs.Good.{Width, widthOfValue, GoodValue, GoodTest, Good}
 use Rattle.model.specs.declared.Kind.{Kind}
@@ -19,6 +20,16 @@ use Rattle.model.proofs.GoodForms.{AllWidths}
 
 pub width-true : (w : ℕ) → isWidth w ≡ true → Width w
 width-true w e = let h = both-true (leb 1 w) (leb w 32) e in (leb-true 1 w (h .0), leb-true w 32 (h .1))
+
+-- a number that has a kind is that kind's number
+pub kind-number : (ks : List Kind) (n : ℕ) (k : Kind) → 1 ≤ numberOf k → kindIn ks n ≡ k → n ≡ numberOf k
+unfolding kindIn
+kind-number [] n k h e = absurd (omega (arith, ap numberOf e))
+kind-number (x ∷ ks) n k h e = go (eqb n (numberOf x)) refl e (kind-number ks n k h)
+  where
+    go : (b : Bool) → eqb n (numberOf x) ≡ b → (if b then x else kindIn ks n) ≡ k → (kindIn ks n ≡ k → n ≡ numberOf k) → n ≡ numberOf k
+    go true q i rec = eqb-true n (numberOf x) q ∙ ap numberOf i
+    go false q i rec = rec i
 
 module _ (ws : List ℕ) (tables : ℕ) where
   pub record Valued (w : ℕ) (t : Tree) : Type 0 where
@@ -41,7 +52,7 @@ module _ (ws : List ℕ) (tables : ℕ) where
 
   pub only-fits : (good : Bool) (s : Sort) {t : Tree} → (good ≡ true → Fits s t) → Fits (only good s) t
   only-fits true s h = h refl
-  only-fits false s h = record { formed = tt }
+  only-fits false s h = fit Sort.Malformed tt
 
   -- a sort that passes a test, read as what the test says
   as-value : {s : Sort} {t : Tree} → isValue s ≡ true → Fits s t → Valued (widthOf s) t
@@ -52,7 +63,7 @@ module _ (ws : List ℕ) (tables : ℕ) where
 
   of-value : (s : Sort) {t : Tree} → isValue s ≡ true → Valued (widthOf s) t → Fits s t
   of-value Sort.Malformed e h = absurd (false≢true e)
-  of-value (Sort.Value w) e h = record { formed = h }
+  of-value (Sort.Value w) e h = fit (Sort.Value w) h
   of-value Sort.Test e h = absurd (false≢true e)
   of-value Sort.Statement e h = absurd (false≢true e)
 
@@ -83,12 +94,21 @@ module _ (ws : List ℕ) (tables : ℕ) where
       let ky = as-value (rw (← q) (b .0)) k in
       record { isOne = b .0; left = hx; right = ky .good; same = hx .width ∙ q ∙ sym (ky .width) }
 
+  -- a value whose width is that of the first of two
+  over-same : {s : Sort} {x y : Tree} (t : Tree) → Same s x y → GoodValue ws (asValue t)
+      → widthOfValue ws (asValue t) ≡ widthOfValue ws (asValue x) → Fits s t
+  over-same {s} t h good same = of-value s (h .isOne) (record { good = good; width = same ∙ h .left .width; bounds = h .left .bounds })
+
   both-tests : {s t : Sort} {x y : Tree} → isTest s && isTest t ≡ true → Fits s x → Fits t y → GoodTest ws (asTest x) × GoodTest ws (asTest y)
   both-tests {s} {t} e h k = let b = both-true (isTest s) (isTest t) e in (as-test (b .0) h, as-test (b .1) k)
 
   both-statements : {s t : Sort} {x y : Tree} → isStatement s && isStatement t ≡ true → Fits s x → Fits t y
       → Good ws tables (asStatement x) × Good ws tables (asStatement y)
   both-statements {s} {t} e h k = let b = both-true (isStatement s) (isStatement t) e in (as-statement (b .0) h, as-statement (b .1) k)
+
+  constant-fits : (n w : ℕ) → isWidth w ≡ true → n < 2 ^ w → Fits (Sort.Value w) (Tree.value (Val.constant n w))
+  unfolding GoodValue widthOfValue
+  constant-fits n w e h = fit (Sort.Value w) (record { good = (width-true w e, h); width = refl; bounds = width-true w e })
 
   -- what a node's place must give beside its sort: a datum that fits, a table that may be applied
   pub record Placed (count : ℕ) (given : List ℕ) (k : Kind) (a b : ℕ) : Type 0 where
@@ -108,7 +128,7 @@ module _ (ws : List ℕ) (tables : ℕ) where
         let high = ltb-true b (widthOf (sort a)) (x .0) in
         let low = leb-true c b (x .1) in
         let v = as-value (lt-ltb 0 (widthOf (sort a)) (omega arith)) h in
-        record { formed = record { good = (v .good, rw (v .width) high, low); width = refl; bounds = (omega arith, omega arith) } }
+        fit (Sort.Value (b - c + 1)) (record { good = (v .good, rw (v .width) high, low); width = refl; bounds = (omega arith, omega arith) })
 
     join-fits : (a b c : ℕ) → Fits (sort a) (tree a) → Fits (sort b) (tree b) → Follows Kind.Join a b c
     unfolding GoodValue widthOfValue
@@ -120,11 +140,8 @@ module _ (ws : List ℕ) (tables : ℕ) where
         let most = leb-true total 32 (x .1) in
         let l = as-value (y .0) h in
         let r = as-value (y .1) k in
-        record { formed = record { good = (l .good, r .good, rw (l .width, r .width) most); width = rw (l .width, r .width); bounds = (omega arith, most) } }
-
-    -- a value whose width is that of the first of two
-    over-same : {s : Sort} {x y : Tree} (t : Tree) → Same s x y → GoodValue ws (asValue t) → widthOfValue ws (asValue t) ≡ widthOfValue ws (asValue x) → Fits s t
-    over-same {s} t h good same = of-value s (h .isOne) (record { good = good; width = same ∙ h .left .width; bounds = h .left .bounds })
+        fit (Sort.Value total)
+        (record { good = (l .good, r .good, rw (l .width, r .width) most); width = rw (l .width, r .width); bounds = (omega arith, most) })
 
     select-fits : (a b c : ℕ) → Fits (sort a) (tree a) → Fits (sort b) (tree b) → Fits (sort c) (tree c) → Follows Kind.Select a b c
     unfolding GoodValue widthOfValue
@@ -133,10 +150,6 @@ module _ (ws : List ℕ) (tables : ℕ) where
         let x = both-true (isTest (sort a)) (alike (sort b) (sort c)) e in
         let s = both-alike (x .1) k l in
         over-same _ s (as-test (x .0) h, s .left .good, s .right, s .same) refl
-
-    constant-fits : (n w : ℕ) → isWidth w ≡ true → n < 2 ^ w → Fits (Sort.Value w) (Tree.value (Val.constant n w))
-    unfolding GoodValue widthOfValue
-    constant-fits n w e h = fit (Sort.Value w) (record { good = (width-true w e, h); width = refl; bounds = width-true w e })
 
     field-fits : (a : ℕ) → a < length ws → Fits (Sort.Value (getD ws a 0)) (Tree.value (Val.field a))
     unfolding GoodValue widthOfValue
