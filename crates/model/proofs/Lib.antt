@@ -3,6 +3,11 @@ pub mod Compute
 pub mod Examples
 pub mod Booleans
 pub mod Lists
+pub mod Every
+pub mod Refusals
+pub mod Sorts
+pub mod Decoded
+pub mod Accepted
 pub mod GoodForms
 pub mod Renaming
 pub mod Fits

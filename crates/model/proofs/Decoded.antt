@@ -1,0 +1,116 @@
+-- The trees of a block's nodes, front to back: each is well formed and of its node's sort. Assumes nothing.
+use Prim.Native.Nat.{ℕ, _<_}
+use native.Mathlib.Omega.{arith}
+use mathlib.Core.Path.{_≡_, refl}
+use mathlib.Core.Bool.{Bool, true, false}
+use mathlib.Core.List.{List, [], _∷_}
+use lib.Dec.{ltb}
+use lib.ListN.{getD}
+use borrow.Author.Tests.{ltb-true, ltb-false}
+use Rattle.model.specs.Lists.{build}
+use Rattle.model.specs.Blocks.{N, T, widths, pipelineNode}
+use Rattle.model.specs.Nodes.{kinds, kindIn, children, unusedZero, sortBy, sortOf}
+use Rattle.model.specs.Trees.{Tree, trees, tree, treeOf}
+use Rattle.model.specs.Refusals.{pipelineSorts, sortAt, gathered, underEach}
+use Rattle.model.specs.declared.Sort.{Sort}
+use Rattle.model.specs.declared.Stage.{Stage}
+use Rattle.model.proofs.Every.{All, all-append, all-left, all-right, all-with, build-before, build-past, from-below}
+use Rattle.model.proofs.GoodForms.{AllWidths}
+use Rattle.model.proofs.Lists.{made, build-at}
+use Rattle.model.proofs.Sorts.{Fits, fit, only-fits, Placed, node-fits}
+
+-- ---- the nodes under a node
+
+module _ (P : ℕ → Type 0) (before : List (List ℕ)) where
+  gathered-all : (cs : List ℕ) → ((c : ℕ) → All P (getD before c [])) → All P (gathered before cs)
+  unfolding gathered
+  gathered-all [] h = tt
+  gathered-all (c ∷ cs) h = all-append P (getD before c []) (gathered before cs) (h c) (gathered-all cs h)
+
+  all-gathered : (cs : List ℕ) → All P (gathered before cs) → All (λ c. All P (getD before c [])) cs
+  unfolding gathered
+  all-gathered [] h = tt
+  all-gathered (c ∷ cs) h =
+      (all-left P (getD before c []) (gathered before cs) h, all-gathered cs (all-right P (getD before c []) (gathered before cs) h))
+
+module _ (p : List ℕ) where
+  abbrev underStep : List (List ℕ) → ℕ → List ℕ
+  underStep before i = i ∷ gathered before (children (pipelineNode p i))
+
+  abbrev pub nodesUnder : ℕ → List ℕ
+  nodesUnder i = getD (underEach p) i []
+
+  under-at : (i : ℕ) → i < N p → nodesUnder i ≡ i ∷ gathered (build underStep i) (children (pipelineNode p i))
+  unfolding underEach made
+  under-at i h = build-at underStep (N p) i [] h
+
+  -- those are nodes of the block
+  pub under-below : (i : ℕ) → All (λ x. x < N p) (nodesUnder i)
+  unfolding underEach
+  under-below = from-below (λ i. All below (nodesUnder i)) λ i rec. go i rec (ltb i (N p)) refl
+    where
+      below : ℕ → Type 0
+      below x = x < N p
+
+      child : (i c : ℕ) → i < N p → ((j : ℕ) → j < i → All below (nodesUnder j)) → (b : Bool) → ltb c i ≡ b → All below (getD (build underStep i) c [])
+      child i c h rec true e = rw (build-before underStep i (N p) c [] (ltb-true c i e) (omega arith)) (rec c (ltb-true c i e))
+      child i c h rec false e = rw (build-past underStep i c [] (ltb-false c i e)) tt
+
+      go : (i : ℕ) → ((j : ℕ) → j < i → All below (nodesUnder j)) → (b : Bool) → ltb i (N p) ≡ b → All below (nodesUnder i)
+      go i rec true e =
+          let h = ltb-true i (N p) e in
+          rw (under-at i h) (h, gathered-all below (build underStep i) (children (pipelineNode p i)) (λ c. child i c h rec (ltb c i) refl))
+      go i rec false e = rw (build-past underStep (N p) i [] (ltb-false i (N p) e)) tt
+
+-- ---- the trees
+
+module _ (p : List ℕ) (tables : ℕ) (given : List ℕ) where
+  abbrev sortStep : List Sort → ℕ → Sort
+  sortStep before i = sortOf Stage.Pipeline (widths p) (T p) before (pipelineNode p i)
+
+  abbrev treeStep : List Tree → ℕ → Tree
+  treeStep before i = treeOf given before i (pipelineNode p i)
+
+  abbrev pub PlacedAt : ℕ → Type 0
+  PlacedAt x = let n = pipelineNode p x in Placed (widths p) tables (T p) given (kindIn kinds (n .kind)) (n .a) (n .b)
+
+  -- where the nodes under i are placed well, its tree fits its sort
+  abbrev pub FitsAt : ℕ → Type 0
+  FitsAt i = All PlacedAt (nodesUnder p i) → Fits (widths p) tables (sortAt (pipelineSorts p) i) (tree p given i)
+
+  module _ (all : AllWidths (widths p)) where
+    child-fits : (i c : ℕ) → i < N p → ((j : ℕ) → j < i → FitsAt j) → All PlacedAt (getD (build (underStep p) i) c [])
+        → Fits (widths p) tables (getD (build sortStep i) c Sort.Malformed) (getD (build treeStep i) c Tree.nothing)
+    unfolding pipelineSorts trees underEach
+    child-fits i c h rec placed = go (ltb c i) refl
+      where
+        go : (b : Bool) → ltb c i ≡ b → Fits (widths p) tables (getD (build sortStep i) c Sort.Malformed) (getD (build treeStep i) c Tree.nothing)
+        go true e =
+            let k = ltb-true c i e in
+            rw (build-before sortStep i (N p) c Sort.Malformed k (omega arith), build-before treeStep i (N p) c Tree.nothing k (omega arith))
+            (rec c k (rw (build-before (underStep p) i (N p) c [] k (omega arith)) at placed))
+        go false e = rw (build-past sortStep i c Sort.Malformed (ltb-false c i e)) (fit (widths p) tables Sort.Malformed tt)
+
+    step-fits : (i : ℕ) → i < N p → ((j : ℕ) → j < i → FitsAt j) → All PlacedAt (i ∷ gathered (build (underStep p) i) (children (pipelineNode p i)))
+        → Fits (widths p) tables (sortStep (build sortStep i) i) (treeStep (build treeStep i) i)
+    unfolding sortOf
+    step-fits i h rec placed =
+        let n = pipelineNode p i in
+        let k = kindIn kinds (n .kind) in
+        let sort : ℕ → Sort = λ j. getD (build sortStep i) j Sort.Malformed in
+        let node : ℕ → Tree = λ j. getD (build treeStep i) j Tree.nothing in
+        let us = build (underStep p) i in
+        only-fits (widths p) tables (unusedZero k n) (sortBy (widths p) (T p) sort k (n .a) (n .b) (n .c)) λ e.
+        node-fits (widths p) tables all (T p) given sort node i k (n .a) (n .b) (n .c) (placed .0)
+        (all-with (λ c. All PlacedAt (getD us c [])) (λ c. Fits (widths p) tables (sort c) (node c)) (children n) (λ c m. child-fits i c h rec)
+        (all-gathered PlacedAt us (children n) (placed .1)))
+
+    pub fits-at : (i : ℕ) → FitsAt i
+    unfolding pipelineSorts trees made
+    fits-at = from-below FitsAt λ i rec. go i rec (ltb i (N p)) refl
+      where
+        go : (i : ℕ) → ((j : ℕ) → j < i → FitsAt j) → (b : Bool) → ltb i (N p) ≡ b → FitsAt i
+        go i rec true e placed =
+            let h = ltb-true i (N p) e in
+            rw (build-at sortStep (N p) i Sort.Malformed h, build-at treeStep (N p) i Tree.nothing h) (step-fits i h rec (rw (under-at p i h) at placed))
+        go i rec false e placed = rw (build-past sortStep (N p) i Sort.Malformed (ltb-false i (N p) e)) (fit (widths p) tables Sort.Malformed tt)
