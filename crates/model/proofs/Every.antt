@@ -3,7 +3,7 @@ use Prim.Native.Nat.{ℕ, zero, suc, _<_, _≤_}
 use native.Mathlib.Nat.{not-suc-le-zero, le-of-suc-le-suc, eq-or-lt-of-le, lt-of-lt-of-le}
 use native.Mathlib.Omega.{arith}
 use mathlib.Core.Path.{_≡_, refl, sym, _∙_}
-use mathlib.Core.Bool.{Bool, true, false, _&&_}
+use mathlib.Core.Bool.{Bool, true, false}
 use mathlib.Core.Logic.{_⊎_, inl, inr}
 use mathlib.Core.List.{List, [], _∷_, _++_}
 use lib.Dec.{eqb, ltb}
@@ -11,13 +11,10 @@ use lib.ListN.{getD, List·getD-eq-default}
 use borrow.Author.Tests.{eq-eqb, lt-ltb}
 use Rattle.model.specs.Lists.{if_then_else_, build, each, every, exists, those, times, among}
 use Rattle.model.specs.Tables.{placed, ordered}
+use Rattle.model.proofs.Booleans.{both-true}
 use Rattle.model.proofs.Lists.{length-build, build-at}
 
 -- ---- places
-
-pub both-true : (a b : Bool) → a && b ≡ true → (a ≡ true) × (b ≡ true)
-both-true true b h = (refl, h)
-both-true false b h = (h, cc)
 
 module _ (test : ℕ → Bool) where
   pub every-at : (n i : ℕ) → every test n ≡ true → i < n → test i ≡ true

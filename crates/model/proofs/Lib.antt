@@ -2,13 +2,13 @@
 pub mod Compute
 pub mod Examples
 pub mod Booleans
+pub mod GoodForms
 pub mod Lists
 pub mod Every
 pub mod Refusals
 pub mod Sorts
 pub mod Decoded
 pub mod Accepted
-pub mod GoodForms
 pub mod Renaming
 pub mod Fits
 pub mod Variables
@@ -21,6 +21,7 @@ pub mod Valuations
 pub mod Completeness
 pub mod Choices
 pub mod Statements
+pub mod Chains
 pub mod NodeList
 pub mod Entries
 pub mod Evaluation

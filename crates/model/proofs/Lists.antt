@@ -1,9 +1,5 @@
 -- Laws of the lists that the definitions make: front to back, place by place, piece by piece. Assumes nothing.
-<<<<<<< HEAD
 use Prim.Native.Nat.{ℕ, zero, suc, _+_, _*_, _-_, _<_}
-=======
-use Prim.Native.Nat.{ℕ, zero, suc, _+_, _*_, _<_}
->>>>>>> b
 use native.Mathlib.Nat.{not-suc-le-zero, eq-or-lt-of-le, le-of-suc-le-suc, mul-le-mul-left}
 use native.Mathlib.Omega.{arith}
 use mathlib.Core.Logic.{_⊎_, inl, inr}
@@ -34,14 +30,11 @@ module _ {A : Type 0} (f : List A → ℕ → A) where
       go (inl e) before = rw e (getD-at (build f n) (f (build f n) n) [] d n (length-build n))
       go (inr l) before = List·getD-append (build f n) (f (build f n) n ∷ []) d i (rw length-build l) ∙ before l
 
-<<<<<<< HEAD
   pub build-last : (n i : ℕ) (d : A) → n ≡ suc i → getD (build f n) (length (build f n) - 1) d ≡ made i
   build-last n i d e =
       let k : length (build f n) - 1 ≡ i = omega (arith, length-build n) in
       ap (λ (j : ℕ). getD (build f n) j d) k ∙ build-at n i d (omega arith)
 
-=======
->>>>>>> b
 -- ---- `each`
 
 module _ {A : Type 0} (f : ℕ → A) where

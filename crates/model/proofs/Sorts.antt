@@ -15,7 +15,8 @@ use Rattle.model.specs.Trees.{Val, Tree, asValue, asTest, asStatement, t
 use Rattle.model.specs.Good.{Width, widthOfValue, GoodValue, GoodTest, Good}
 use Rattle.model.specs.declared.Kind.{Kind}
 use Rattle.model.specs.declared.Sort.{Sort}
-use Rattle.model.proofs.Every.{All, both-true}
+use Rattle.model.proofs.Booleans.{both-true}
+use Rattle.model.proofs.Every.{All}
 use Rattle.model.proofs.GoodForms.{AllWidths}
 
 pub width-true : (w : ℕ) → isWidth w ≡ true → Width w
