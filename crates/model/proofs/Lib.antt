@@ -22,6 +22,9 @@ pub mod Completeness
 pub mod Choices
 pub mod Statements
 pub mod Chains
+pub mod Within
+pub mod Theorem
 pub mod NodeList
 pub mod Entries
 pub mod Evaluation
+pub mod Demands

@@ -1,0 +1,29 @@
+-- Packets and valuations within their widths, place by place. Assumes nothing.
+use Prim.Native.Nat.{ℕ, zero, suc, _^_, _<_, suc-le-suc}
+use native.Mathlib.Nat.{zero-lt-suc, suc-inj}
+use native.Mathlib.Omega.{arith}
+use mathlib.Core.Path.{_≡_, refl, ap}
+use mathlib.Core.List.{List, [], _∷_}
+use lib.ListN.{getD, length}
+use lib.Pow.{pow-pos}
+use Rattle.model.specs.Good.{Within}
+
+pub within-length : (ws ns : List ℕ) → Within ws ns → length ns ≡ length ws
+within-length [] [] h = refl
+within-length [] (n ∷ ns) h = absurd h
+within-length (w ∷ ws) [] h = absurd h
+within-length (w ∷ ws) (n ∷ ns) h = ap suc (within-length ws ns (h .1))
+
+-- past the end there is 0, which fits
+pub within-at : (ws ns : List ℕ) → Within ws ns → (i : ℕ) → getD ns i 0 < 2 ^ getD ws i 0
+within-at [] [] h i = pow-pos 0
+within-at [] (n ∷ ns) h i = absurd h
+within-at (w ∷ ws) [] h i = absurd h
+within-at (w ∷ ws) (n ∷ ns) h zero = h .0
+within-at (w ∷ ws) (n ∷ ns) h (suc i) = within-at ws ns (h .1) i
+
+pub within-of : (ws ns : List ℕ) → length ns ≡ length ws → ((i : ℕ) → i < length ws → getD ns i 0 < 2 ^ getD ws i 0) → Within ws ns
+within-of [] [] e f = tt
+within-of [] (n ∷ ns) e f = let z : ⊥ = omega arith in absurd z
+within-of (w ∷ ws) [] e f = let z : ⊥ = omega arith in absurd z
+within-of (w ∷ ws) (n ∷ ns) e f = (f zero (zero-lt-suc _), within-of ws ns (suc-inj e) (λ i h. f (suc i) (suc-le-suc h)))
