@@ -2,13 +2,12 @@
 use Prim.Native.Nat.{ℕ, zero, suc, _<_}
 use native.Mathlib.Nat.{not-suc-le-zero}
 use mathlib.Core.Path.{_≡_, refl}
-use mathlib.Core.Bool.{Bool, true, false, _&&_}
+use mathlib.Core.Bool.{Bool, true, false}
 use mathlib.Core.List.{List, [], _∷_}
-use lib.ListN.{getD}
 use Rattle.bits.specs.Width as bits
 use Rattle.model.specs.Lists.{if_then_else_, every, word}
 use Rattle.model.specs.Blocks.{T, Call, widths, keyCount, key, tableOf, value, mask}
-use Rattle.model.specs.Trees.{Test, truthOf, bitsOf, bitsIn, program, called}
+use Rattle.model.specs.Trees.{truthOf, bitsIn, program, called}
 use Rattle.model.specs.Good.{Good}
 use Rattle.model.specs.Tables.{matches, firstThat, tried, callOf}
 use Rattle.model.specs.Runs as runs

@@ -1,6 +1,6 @@
 -- Completeness of a choice, over the join rule: the joined variables are given the values of the side that ran. Assumes nothing.
 use Prim.Native.Nat.{ℕ, zero, suc, _^_, _≤_, _<_}
-use native.Mathlib.Nat.{le-refl, le-trans, lt-of-lt-of-le}
+use native.Mathlib.Nat.{le-refl, le-trans}
 use native.Mathlib.Omega.{arith}
 use mathlib.Core.Path.{_≡_, refl, sym, ap, _∙_}
 use mathlib.Core.Bool.{Bool, true, false, not, _&&_}
@@ -21,7 +21,7 @@ use Rattle.model.proofs.Renaming.{getD-map}
 use Rattle.model.proofs.Variables.{var, Front, front-trans, front-append, Ready, Steps}
 use Rattle.model.proofs.Joins.{JoinLaws, ready-joined, steps-joined, left-apart, right-apart}
 use Rattle.model.proofs.Equations.{valued, map-equal}
-use Rattle.model.proofs.Valuations.{Agree, agree-refl, agree-less, agree-trans, map-agree, given, given-keeps, given-at, Fits, given-fits}
+use Rattle.model.proofs.Valuations.{Agree, agree-refl, agree-less, agree-trans, given, given-keeps, given-at, Fits, given-fits}
 use Rattle.model.proofs.Completeness.{Extends, aim, sideAim, On, Meets, Complete, weaker, still, packet-at, packet-fits}
 use Rattle.model.proofs.Runs.{Run, eitherOf, whether}
 

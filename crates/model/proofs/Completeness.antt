@@ -1,28 +1,26 @@
 -- Completeness: a run that passes, or fails, gives a valuation at which the form goes on, or wrong. Assumes nothing.
-use Prim.Native.Nat.{ℕ, zero, suc, _^_, _≤_, _<_}
-use native.Mathlib.Nat.{le-refl, le-trans, lt-of-lt-of-le}
+use Prim.Native.Nat.{ℕ, suc, _^_, _≤_, _<_}
 use native.Mathlib.Omega.{arith}
 use mathlib.Core.Path.{_≡_, refl, sym, ap, _∙_}
 use mathlib.Core.Bool.{Bool, true, false, not, _&&_}
-use mathlib.Core.List.{List, [], _∷_, _++_, map}
-use mathlib.Core.Logic.{_⊎_, inl, inr, _≢_}
-use lib.ListN.{getD, set, length, length-append, length-map}
+use mathlib.Core.List.{List, [], _∷_, map}
+use lib.ListN.{getD, set, length, length-append}
 use borrow.Author.Tests.{eq-eqb, ltb-true}
 use Rattle.bits.specs.Width.{fits}
 use Rattle.model.specs.Lists.{if_then_else_}
 use Rattle.model.specs.Trees.{Val, Test, Stmt, Bits, bitsOf, truthOf, bitsIn}
 use Rattle.model.specs.Good.{GoodValue, GoodTest, widthOfValue}
-use Rattle.model.specs.Runs.{State, state, Outcome, passed, failed, blocked, refused, andThen, withNext, takeSide, put, run}
-use Rattle.model.specs.Passive.{Passive, Origin, Equation, Vars, next, fresh, Form, form, JoinRule, passify, renamed, renamedTest, _then_}
+use Rattle.model.specs.Runs.{State, state, Outcome, passed, failed, blocked, refused, andThen, put, run}
+use Rattle.model.specs.Passive.{Passive, Equation, Vars, next, fresh, Form, form, JoinRule, passify, renamed, renamedTest, _then_}
 use Rattle.model.specs.Walk.{equal, goesOn, goesWrong}
 use Rattle.model.proofs.Booleans.{true-both, or-left, or-right}
 use Rattle.model.proofs.Renaming.{getD-map, map-set}
-use Rattle.model.proofs.Fits.{Sized, sized}
+use Rattle.model.proofs.Fits.{sized}
 use Rattle.model.proofs.Variables.{var, Front, front-trans, front-append, fresh-width, Ready}
-use Rattle.model.proofs.Equations.{valued, map-equal}
+use Rattle.model.proofs.Equations.{valued}
 use Rattle.model.proofs.Reading.{reads-bits, reads-truth}
 use Rattle.model.proofs.Runs.{Run, inOrder}
-use Rattle.model.proofs.Valuations.{Agree, agree-refl, agree-less, agree-trans, map-agree, changed, changed-here, changed-below, given, given-keeps, given-at, Fits, changed-fits, given-fits}
+use Rattle.model.proofs.Valuations.{Agree, agree-refl, agree-less, agree-trans, map-agree, changed, changed-here, changed-below, Fits, changed-fits}
 
 -- `ws` are the fields' widths, `widths` those of all variables
 module _ (ws widths : List ℕ) where

@@ -9,7 +9,7 @@ use mathlib.Core.Logic.{_⊎_, inl, inr, _≢_}
 use lib.Dec.{eqb}
 use lib.ListN.{getD, length, length-append}
 use lib.Seq.{getD-append-seam}
-use borrow.Author.Tests.{eqb-true, eqb-false, eq-eqb}
+use borrow.Author.Tests.{eqb-true, eq-eqb}
 use Rattle.model.specs.Lists.{if_then_else_}
 use Rattle.model.specs.Passive.{Vars, vars, next, beside, JoinRule, newWhereDiffers, joinedVars, newWidths}
 use Rattle.model.proofs.GoodForms.{AllWidths}

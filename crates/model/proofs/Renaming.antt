@@ -2,11 +2,10 @@
 use Prim.Native.Nat.{ℕ, zero, suc, _+_, _<_}
 use native.Mathlib.Nat.{not-suc-le-zero, le-of-suc-le-suc}
 use mathlib.Core.Path.{_≡_, refl, sym, ap, ap₂, _∙_}
-use mathlib.Core.Bool.{Bool, not}
+use mathlib.Core.Bool.{not}
 use mathlib.Core.List.{List, [], _∷_, map}
-use lib.ListN.{getD, set, length, length-map}
-use Rattle.model.specs.Lists.{if_then_else_}
-use Rattle.model.specs.Trees.{Val, Test, Bits, ofWidth, binaryBits, complementBits, sliceBits, joinBits, compareBits, connected, bitsOf, truthOf, bitsIn}
+use lib.ListN.{getD, set, length}
+use Rattle.model.specs.Trees.{Val, Test, Bits, binaryBits, complementBits, sliceBits, joinBits, compareBits, connected, bitsOf, truthOf}
 use Rattle.model.specs.Good.{widthOfValue, GoodValue, GoodTest}
 use Rattle.model.specs.Passive.{renamed, renamedTest}
 

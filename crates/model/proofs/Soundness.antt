@@ -1,17 +1,16 @@
 -- Soundness: where a form goes on, or wrong, the run passes, or fails, on the choices that the walk takes out. Assumes nothing.
-use Prim.Native.Nat.{ℕ, suc, _+_, _^_, _<_}
+use Prim.Native.Nat.{ℕ, _^_, _<_}
 use native.Mathlib.Nat.{add-zero}
 use native.Mathlib.Numerals.{add-one}
-use mathlib.Core.Path.{_≡_, refl, sym, _∙_}
+use mathlib.Core.Path.{_≡_, sym, _∙_}
 use mathlib.Core.Bool.{Bool, true, false, not, _&&_, false≢true}
-use mathlib.Core.List.{List, [], _∷_, _++_, map}
+use mathlib.Core.List.{List, _++_, map}
 use lib.ListN.{getD, length}
-use lib.Seq.{getD-append-seam}
 use borrow.Author.Tests.{eqb-true, lt-ltb, not-true}
-use Rattle.model.specs.Trees.{Val, Test, Stmt, Bits, bitsOf, truthOf, bitsIn}
+use Rattle.model.specs.Trees.{Val, Test, Stmt, Bits, bitsOf, truthOf}
 use Rattle.model.specs.Good.{GoodValue, GoodTest}
 use Rattle.model.specs.Runs.{State, Outcome, run}
-use Rattle.model.specs.Passive.{Passive, Origin, Vars, next, fresh, beside, Form, form, JoinRule, joinedVars, join, passify, renamed, renamedTest, equations, _then_}
+use Rattle.model.specs.Passive.{Passive, Origin, Vars, next, beside, Form, form, JoinRule, joinedVars, join, passify, renamed, renamedTest, equations, _then_}
 use Rattle.model.specs.Walk.{entry, equal, goesOn, goesWrong, walkOn, walkWrong}
 use Rattle.model.proofs.Booleans.{both-true, by-side}
 use Rattle.model.proofs.Renaming.{map-set}

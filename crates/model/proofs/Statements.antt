@@ -1,23 +1,22 @@
 -- A form is exact for a run: its variables are in order, its statement is well formed, it is sound and complete. One law for each way in
 -- which runs are put together, and one induction over statements. Assumes nothing.
-use Prim.Native.Nat.{ℕ, _≤_, _<_}
+use Prim.Native.Nat.{ℕ, _<_}
 use native.Mathlib.Nat.{lt-of-lt-of-le}
-use mathlib.Core.Path.{_≡_, refl, sym, ap, _∙_}
+use mathlib.Core.Path.{_≡_, sym, _∙_}
 use mathlib.Core.Bool.{Bool}
-use mathlib.Core.List.{List, [], _∷_, _++_, map}
+use mathlib.Core.List.{List}
 use lib.ListN.{getD, length}
-use lib.Seq.{getD-append-seam}
 use Rattle.model.specs.Trees.{Val, Test, Stmt, truthOf, bitsIn}
 use Rattle.model.specs.Good.{widthOfValue, GoodValue, GoodTest, Good}
-use Rattle.model.specs.Runs.{State, state, Outcome, run}
-use Rattle.model.specs.Passive.{Passive, Origin, Vars, next, fresh, beside, Form, form, JoinRule, joinedVars, equations, join, passify, renamedTest, _then_}
+use Rattle.model.specs.Runs.{State, Outcome, run}
+use Rattle.model.specs.Passive.{Passive, Origin, Vars, next, beside, Form, form, JoinRule, equations, join, passify, renamedTest, _then_}
 use Rattle.model.proofs.GoodForms.{AllWidths, GoodEquations, GoodPassive}
-use Rattle.model.proofs.Variables.{var, Front, front-refl, front-trans, front-append, Ready, Steps, steps-refl, steps-trans, ready-fresh, steps-fresh, fresh-there, fresh-width}
+use Rattle.model.proofs.Variables.{var, Front, front-trans, front-append, Ready, Steps, steps-refl, steps-trans, ready-fresh, steps-fresh, fresh-there, fresh-width}
 use Rattle.model.proofs.Joins.{JoinLaws, ready-joined, steps-joined}
-use Rattle.model.proofs.Equations.{valued, good-equations}
+use Rattle.model.proofs.Equations.{good-equations}
 use Rattle.model.proofs.Reading.{reads-good, reads-width, reads-good-test, reads-truth}
 use Rattle.model.proofs.Runs.{Run, inOrder, eitherOf, whether, goes-same, fails-same}
-use Rattle.model.proofs.Valuations.{Fits, Agree}
+use Rattle.model.proofs.Valuations.{Fits}
 use Rattle.model.proofs.Soundness.{Sound, sound-both, sound-choice, sound-chain, sound-skip, sound-havoc, sound-assign, sound-assume, sound-assert}
 use Rattle.model.proofs.Completeness.{Complete, complete-both, complete-skip, complete-havoc, complete-assign, complete-assume, complete-assert, still-truth}
 use Rattle.model.proofs.Choices.{complete-choice, complete-chain}

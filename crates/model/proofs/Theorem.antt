@@ -1,11 +1,11 @@
 -- The theorem over the words of the two blocks, for any join rule that has the laws: some valuation has the form go wrong exactly when some
 -- packet and choice list make the run fail, and the packet and choices that are taken out of it do. Assumes nothing.
-use Prim.Native.Nat.{ℕ, _+_, _^_, _≤_, _<_}
-use native.Mathlib.Nat.{zero-add, le-refl, lt-of-lt-of-le}
+use Prim.Native.Nat.{ℕ, _^_, _≤_, _<_}
+use native.Mathlib.Nat.{zero-add, le-refl}
 use native.Mathlib.Omega.{arith}
 use mathlib.Core.Path.{_≡_, refl, sym, ap, _∙_, subst}
 use mathlib.Core.Bool.{Bool, true, false}
-use mathlib.Core.List.{List, [], _++_, map, append-nil}
+use mathlib.Core.List.{List, [], map, append-nil}
 use lib.Dec.{ltb}
 use lib.ListN.{getD, length, take, length-map, List·getD-eq-default}
 use lib.Seq.{ext-getD, getD-take, length-take-le, take-all}
@@ -13,9 +13,9 @@ use lib.Pow.{pow-pos}
 use borrow.Author.Tests.{ltb-true, ltb-false}
 use Rattle.model.specs.Lists.{each}
 use Rattle.model.specs.Blocks.{F, widths}
-use Rattle.model.specs.Trees.{program, bitsIn}
+use Rattle.model.specs.Trees.{bitsIn}
 use Rattle.model.specs.Good.{Within}
-use Rattle.model.specs.Runs.{State, state, Outcome, run, runTable, pipelineRun}
+use Rattle.model.specs.Runs.{state, pipelineRun}
 use Rattle.model.specs.Passive.{Vars, vars, Form, JoinRule, passiveBy}
 use Rattle.model.specs.Walk.{goesWrong, walkWrong}
 use Rattle.model.specs.Demands.{FailsWith}
@@ -25,8 +25,7 @@ use Rattle.model.proofs.Accepted.{WellFormed}
 use Rattle.model.proofs.Renaming.{getD-map}
 use Rattle.model.proofs.Variables.{var, Front, front-refl, Ready}
 use Rattle.model.proofs.Joins.{JoinLaws}
-use Rattle.model.proofs.Runs.{Fails}
-use Rattle.model.proofs.Valuations.{Fits, Agree}
+use Rattle.model.proofs.Valuations.{Fits}
 use Rattle.model.proofs.Completeness.{Extends, Wrong, aim, Meets}
 use Rattle.model.proofs.Chains.{exact-program}
 use Rattle.model.proofs.Within.{within-length, within-at, within-of}

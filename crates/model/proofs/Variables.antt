@@ -2,7 +2,7 @@
 use Prim.Native.Nat.{ℕ, zero, suc, _≤_, _<_, suc-le-suc}
 use native.Mathlib.Nat.{le-refl, le-trans, lt-of-lt-of-le, le-of-suc-le-suc, zero-lt-suc, not-suc-le-zero, lt-trans}
 use native.Mathlib.Omega.{arith}
-use mathlib.Core.Path.{_≡_, refl, sym, ap, _∙_}
+use mathlib.Core.Path.{_≡_, refl, sym, _∙_}
 use mathlib.Core.Bool.{Bool, true, false}
 use mathlib.Core.List.{List, [], _∷_, _++_}
 use mathlib.Core.Logic.{_⊎_, inl, inr, _≢_}
@@ -11,7 +11,7 @@ use lib.ListN.{getD, set, length, length-append, length-set, List·getD-append}
 use lib.Seq.{getD-append-seam, getD-set-same, getD-set-other}
 use borrow.Author.Tests.{eqb-true, eqb-false}
 use Rattle.model.specs.Good.{Width}
-use Rattle.model.specs.Passive.{Vars, vars, next, fresh, beside}
+use Rattle.model.specs.Passive.{Vars, next, fresh}
 use Rattle.model.proofs.GoodForms.{AllWidths}
 
 -- the field's current variable
