@@ -39,4 +39,4 @@ module _ (p r : List ℕ) (accepted : Accepted p r) where
   falsified x =
       let w = accepted-good p r accepted in
       let f = found-wrong p r w newWhereDiffers document-joins (x .0) (x .3) (x .1) (x .2) (x .4) in
-      (f .0, f .1, truth-is p r (f .0) ∙ ap not (f .2))
+      (f .0, f .1, truth-is p r (f .0) ∙ ap not (f .3))

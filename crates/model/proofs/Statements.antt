@@ -75,105 +75,110 @@ module _ (ws : List ℕ) (sizes : AllWidths ws) where
       right : Steps ws (beside e (f e .after)) (second e .after)
       right = y .steps (beside e (f e .after)) ready-beside
 
-      module _ (o : Origin) (p q : Passive) where
-        abbrev both : Form
-        both = join ws rule o e p (f e .after) q (second e .after)
+    -- the sides, as they stand in the joined form
+    module _ (o : Origin) (first rest : Vars → Passive) where
+      abbrev make : Vars → Form
+      make e = join ws rule o e (first e) (f e .after) (rest e) (second e .after)
 
-        ready-both : Ready ws (both .after)
+      module _ (e : Vars) (k : Ready ws e) where
+        ready-make : Ready ws (make e .after)
         unfolding join
-        ready-both = ready-joined ws rule laws sizes e (f e .after) (second e .after) k kl kr (x .steps e k) right
+        ready-make = ready-joined ws rule laws sizes e (f e .after) (second e .after) k (kl e k) (kr e k) (x .steps e k) (right e k)
 
-        steps-both : Steps ws e (both .after)
+        steps-make : Steps ws e (make e .after)
         unfolding join
-        steps-both = steps-joined ws rule laws sizes e (f e .after) (second e .after) k kl kr (x .steps e k) right
+        steps-make = steps-joined ws rule laws sizes e (f e .after) (second e .after) k (kl e k) (kr e k) (x .steps e k) (right e k)
 
-        module _ (widths : List ℕ) (front : Front (both .after .widths) widths) where
+        lengths : (length (f e .after .current) ≡ length (make e .after .current)) × (length (second e .after .current) ≡ length (make e .after .current))
+        lengths = (kl e k .size ∙ sym (ready-make .size), kr e k .size ∙ sym (ready-make .size))
+
+        module _ (widths : List ℕ) (front : Front (make e .after .widths) widths) where
           front-right : Front (second e .after .widths) widths
           unfolding join
           front-right = front-trans (front-append (second e .after .widths) _) front
 
           front-left : Front (f e .after .widths) widths
-          front-left = front-trans (right .front) front-right
+          front-left = front-trans (right e k .front) front-right
 
           front-before : Front (e .widths) widths
           front-before = front-trans (x .steps e k .front) front-left
 
-          equations-good : (s : Vars) → Ready ws s → Front (s .widths) widths → GoodEquations widths (equations (s .current) (both .after .current))
+          equations-good : (s : Vars) → Ready ws s → Front (s .widths) widths → GoodEquations widths (equations (s .current) (make e .after .current))
           equations-good s ks fs =
-              good-equations widths (s .current) (both .after .current)
+              good-equations widths (s .current) (make e .after .current)
               (λ i h.
               let b : i < length ws = rw (ks .size) at h in
-              let kz = ready-both in (
+              let kz = ready-make in (
                 lt-of-lt-of-le (ks .low i b) (fs .shorter),
                 lt-of-lt-of-le (kz .low i b) (front .shorter),
-                (fs .same (var s i) (ks .low i b) ∙ ks .wide i b) ∙ sym (front .same (var (both .after) i) (kz .low i b) ∙ kz .wide i b),
+                (fs .same (var s i) (ks .low i b) ∙ ks .wide i b) ∙ sym (front .same (var (make e .after) i) (kz .low i b) ∙ kz .wide i b),
               ))
 
-          good-both : GoodPassive widths p → GoodPassive widths q → GoodPassive widths (both .body)
+          good-make : GoodPassive widths (first e) → GoodPassive widths (rest e) → GoodPassive widths (make e .body)
           unfolding join GoodPassive
-          good-both gp gq = (gp, equations-good (f e .after) kl front-left, gq, equations-good (second e .after) kr front-right)
+          good-make g h = (g, equations-good (f e .after) (kl e k) front-left, h, equations-good (second e .after) (kr e k) front-right)
 
-        lengths : (length (f e .after .current) ≡ length (both .after .current)) × (length (second e .after .current) ≡ length (both .after .current))
-        lengths = (kl .size ∙ sym (ready-both .size), kr .size ∙ sym (ready-both .size))
+      -- what is left to show of either kind of choice, from what holds of its sides
+      record Sides (go : Run) : Type 0 where
+        good : (widths : List ℕ) (e : Vars) → Ready ws e → Front (e .widths) widths
+            → GoodPassive widths (f e .body) → GoodPassive widths (second e .body) → GoodPassive widths (first e) × GoodPassive widths (rest e)
+        sound : (widths : List ℕ) (v : ℕ → ℕ) (e : Vars) → Ready ws e → Front (e .widths) widths
+            → Sound ws widths v a e (f e) → Sound ws widths v b (beside e (f e .after)) (second e)
+            → (length (f e .after .current) ≡ length (make e .after .current)) × (length (second e .after .current) ≡ length (make e .after .current))
+            → Sound ws widths v go e (make e)
+        complete : (widths : List ℕ) (e : Vars) → Ready ws e → Front (e .widths) widths → Front (make e .after .widths) widths
+            → Complete ws widths a e (f e) → Complete ws widths b (beside e (f e .after)) (second e) → Complete ws widths go e (make e)
 
-    abbrev choiceForm : Vars → Form
-    choiceForm e = join ws rule Origin.ofPipeline e (f e .body) (f e .after) (second e .body) (second e .after)
+      exact-sides : (go : Run) → Sides go → Exact go make
+      exact-sides go s = record {
+        ready = ready-make;
+        steps = steps-make;
+        good = λ widths e k front.
+            let g = s .good widths e k (front-before e k widths front)
+            (x .good widths e k (front-left e k widths front)) (y .good widths _ (ready-beside e k) (front-right e k widths front)) in
+            good-make e k widths front (g .0) (g .1);
+        sound = λ widths v fits e k front.
+            s .sound widths v e k (front-before e k widths front)
+            (x .sound widths v fits e k (front-left e k widths front)) (y .sound widths v fits _ (ready-beside e k) (front-right e k widths front)) (lengths e k);
+        complete = λ widths e k front.
+            s .complete widths e k (front-before e k widths front) front
+            (x .complete widths e k (front-left e k widths front)) (y .complete widths _ (ready-beside e k) (front-right e k widths front));
+      }
 
-    pub exact-choice : Exact (eitherOf a b) choiceForm
+    pub exact-choice : Exact (eitherOf a b) (λ e. join ws rule Origin.ofPipeline e (f e .body) (f e .after) (second e .body) (second e .after))
     unfolding join
-    exact-choice = record {
-      ready = λ e k. ready-both e k Origin.ofPipeline (f e .body) (second e .body);
-      steps = λ e k. steps-both e k Origin.ofPipeline (f e .body) (second e .body);
-      good = λ widths e k front.
-          let fl = front-left e k Origin.ofPipeline (f e .body) (second e .body) widths front in
-          let fr = front-right e k Origin.ofPipeline (f e .body) (second e .body) widths front in
-          good-both e k Origin.ofPipeline (f e .body) (second e .body) widths front (x .good widths e k fl) (y .good widths _ (ready-beside e k) fr);
-      sound = λ widths v fits e k front.
-          let fl = front-left e k Origin.ofPipeline (f e .body) (second e .body) widths front in
-          let fr = front-right e k Origin.ofPipeline (f e .body) (second e .body) widths front in
-          sound-choice ws widths v a b rule e (f e) (second e) (x .sound widths v fits e k fl) (y .sound widths v fits _ (ready-beside e k) fr)
-          (lengths e k Origin.ofPipeline (f e .body) (second e .body));
-      complete = λ widths e k front.
-          let fl = front-left e k Origin.ofPipeline (f e .body) (second e .body) widths front in
-          let fr = front-right e k Origin.ofPipeline (f e .body) (second e .body) widths front in
-          complete-choice ws widths rule laws sizes e (f e) (second e) k (kl e k) (kr e k) (x .steps e k) (right e k) a b
-          (x .complete widths e k fl) (y .complete widths _ (ready-beside e k) fr) front;
-    }
+    exact-choice =
+        exact-sides Origin.ofPipeline (λ e. f e .body) (λ e. second e .body) (eitherOf a b)
+        (record {
+          good = λ widths e k front g h. (g, h);
+          sound = λ widths v e k front l r n. sound-choice ws widths v a b rule e (f e) (second e) l r n;
+          complete = λ widths e k before front l r.
+              complete-choice ws widths rule laws sizes e (f e) (second e) k (kl e k) (kr e k) (x .steps e k) (right e k) a b l r front;
+        })
 
+    -- the test t is over the fields, and m over the current variables
     module _ (test : List ℕ → Bool) (t : Test) (gt : GoodTest ws t) (same : (packet : List ℕ) → test packet ≡ truthOf (bitsIn ws packet) t) where
       abbrev m : Vars → Test
       m e = renamedTest (e .current) t
 
-      abbrev first : Vars → Passive
-      first e = Passive.assume (m e) then f e .body
+      abbrev matched : Vars → Passive
+      matched e = Passive.assume (m e) then f e .body
 
-      abbrev rest : Vars → Passive
-      rest e = Passive.assume (Test.notTest (m e)) then second e .body
+      abbrev missed : Vars → Passive
+      missed e = Passive.assume (Test.notTest (m e)) then second e .body
 
-      pub exact-chain : Exact (whether test a b) (λ e. join ws rule Origin.ofChain e (first e) (f e .after) (rest e) (second e .after))
+      pub exact-chain : Exact (whether test a b) (λ e. join ws rule Origin.ofChain e (matched e) (f e .after) (missed e) (second e .after))
       unfolding join GoodPassive GoodTest
-      exact-chain = record {
-        ready = λ e k. ready-both e k Origin.ofChain (first e) (rest e);
-        steps = λ e k. steps-both e k Origin.ofChain (first e) (rest e);
-        good = λ widths e k front.
-            let fl = front-left e k Origin.ofChain (first e) (rest e) widths front in
-            let fr = front-right e k Origin.ofChain (first e) (rest e) widths front in
-            let gm = reads-good-test ws widths e k (front-before e k Origin.ofChain (first e) (rest e) widths front) t gt in
-            good-both e k Origin.ofChain (first e) (rest e) widths front (gm, x .good widths e k fl) (gm, y .good widths _ (ready-beside e k) fr);
-        sound = λ widths v fits e k front.
-            let fl = front-left e k Origin.ofChain (first e) (rest e) widths front in
-            let fr = front-right e k Origin.ofChain (first e) (rest e) widths front in
-            let fb = front-before e k Origin.ofChain (first e) (rest e) widths front in
-            sound-chain ws widths v a b rule e (f e) (second e) (x .sound widths v fits e k fl) (y .sound widths v fits _ (ready-beside e k) fr)
-            test (m e) (reads-truth ws widths e k fb v t gt ∙ sym (same _)) (lengths e k Origin.ofChain (first e) (rest e));
-        complete = λ widths e k front.
-            let fl = front-left e k Origin.ofChain (first e) (rest e) widths front in
-            let fr = front-right e k Origin.ofChain (first e) (rest e) widths front in
-            let fb = front-before e k Origin.ofChain (first e) (rest e) widths front in
-            complete-chain ws widths rule laws sizes e (f e) (second e) k (kl e k) (kr e k) (x .steps e k) (right e k) a b
-            (x .complete widths e k fl) (y .complete widths _ (ready-beside e k) fr) test (m e)
-            (λ v packet eq w d. still-truth ws widths e k fb v packet eq t gt w d ∙ sym (same packet)) front;
-      }
+      exact-chain =
+          exact-sides Origin.ofChain matched missed (whether test a b)
+          (record {
+            good = λ widths e k front g h. let gm = reads-good-test ws widths e k front t gt in ((gm, g), (gm, h));
+            sound = λ widths v e k front l r n.
+                sound-chain ws widths v a b rule e (f e) (second e) l r test (m e) (reads-truth ws widths e k front v t gt ∙ sym (same _)) n;
+            complete = λ widths e k before front l r.
+                complete-chain ws widths rule laws sizes e (f e) (second e) k (kl e k) (kr e k) (x .steps e k) (right e k) a b l r test (m e)
+                (λ v packet eq w d. still-truth ws widths e k before v packet eq t gt w d ∙ sym (same packet)) front;
+          })
 
   -- the same run, told otherwise
   pub exact-same : (a b : Run) (f : Vars → Form) → ((s : State) → b s ≡ a s) → Exact a f → Exact b f

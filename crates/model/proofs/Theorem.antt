@@ -1,7 +1,7 @@
 -- The theorem over the words of the two blocks, for any join rule that has the laws: some valuation has the form go wrong exactly when some
 -- packet and choice list make the run fail, and the packet and choices that are taken out of it do. Assumes nothing.
 use Prim.Native.Nat.{ℕ, _^_, _≤_, _<_}
-use native.Mathlib.Nat.{zero-add, le-refl}
+use native.Mathlib.Nat.{zero-add, le-refl, lt-of-lt-of-le}
 use native.Mathlib.Omega.{arith}
 use mathlib.Core.Path.{_≡_, refl, sym, ap, _∙_, subst}
 use mathlib.Core.Bool.{Bool, true, false}
@@ -122,16 +122,26 @@ module _ (p r : List ℕ) (w : WellFormed p r) (rule : JoinRule) (laws : JoinLaw
         go false e =
             rw (List·getD-eq-default packet 0 {n = x} (omega (arith, ltb-false x (length (widths p)) e, within-length (widths p) packet h))) (pow-pos (getD all x 0))
 
+    same-packet : (vs : List ℕ) → length vs ≡ length all → ((i : ℕ) → i < length (widths p) → getD vs i 0 ≡ first i) → packetIn vs ≡ packet
+    same-packet vs e is =
+        let n = length (widths p) in
+        let k : length (packetIn vs) ≡ n = length-take-le n vs (omega (arith, e, front-start .shorter)) in
+        ext-getD 0 (packetIn vs) packet (k ∙ sym (within-length (widths p) packet h)) (λ i b. getD-take n vs i 0 (rw k at b) ∙ is i (rw k at b))
+
+    -- with that packet
     pub found-wrong : (choices : List ℕ) (used : ℕ) → FailsWith p r packet choices used
-        → (valuation : List ℕ) × Within all valuation × (goesWrong (bitsIn all valuation) (made .body) ≡ true)
+        → (valuation : List ℕ) × Within all valuation × (packetIn valuation ≡ packet) × (goesWrong (bitsIn all valuation) (made .body) ≡ true)
     unfolding passiveBy pipelineRun
     found-wrong choices used x =
         let c = exact-program p r w rule laws .complete all start start-ready (front-refl all) .meets first first-fits (state packet choices 0) first-packet in
         let m : Extends (widths p) all start (made .after) first (Wrong (widths p) all (aim (widths p) all (made .body))) =
         subst (Meets (widths p) all start (made .after) (aim (widths p) all (made .body)) first) (x .2) c in
         let n = length all in
-        let vs = each (m .to) n in (
+        let vs = each (m .to) n in
+        let is : (y : ℕ) → y < n → getD vs y 0 ≡ m .to y = λ y k. each-at (m .to) n y 0 k in
+        let size = length-each (m .to) n in (
           vs,
-          within-of all vs (length-each (m .to) n) (λ i k. rw (each-at (m .to) n i 0 k) (m .to-fits i)),
-          m .holds (λ y. getD vs y 0) (λ y k. each-at (m .to) n y 0 k),
+          within-of all vs size (λ i k. rw (is i k) (m .to-fits i)),
+          same-packet vs size (λ i k. is i (lt-of-lt-of-le k (front-start .shorter)) ∙ m .agrees i k),
+          m .holds (λ y. getD vs y 0) is,
         )
