@@ -1,9 +1,10 @@
 -- Demand 3: the condition is exact, in both directions, from the words of the pipeline to the words of the condition. Assumes nothing.
 use Prim.Native.Nat.{ℕ}
+use native.Mathlib.Omega.{arith}
 use mathlib.Core.Path.{_≡_, refl, sym, ap, _∙_}
 use mathlib.Core.Bool.{Bool, true, false, not}
 use mathlib.Core.Logic.{_↔_}
-use mathlib.Core.List.{List}
+use mathlib.Core.List.{List, [], _∷_}
 use borrow.Author.Tests.{not-false}
 use Rattle.model.specs.Trees.{bitsIn}
 use Rattle.model.specs.Good.{Within}
@@ -11,7 +12,9 @@ use Rattle.model.specs.Passive.{passive, newWhereDiffers}
 use Rattle.model.specs.Emit.{passiveForm}
 use Rattle.model.specs.Walk.{goesWrong}
 use Rattle.model.specs.Calls.{conditionTruth}
-use Rattle.model.specs.Demands.{Accepted, Small, Falsifiable, CanFail, FalseUnder, Demand3, variableWidths}
+use Rattle.model.specs.Demands.{Accepted, Small, Falsifiable, CanFail, FalseUnder, Demand3, NotConstant, variableWidths}
+use Rattle.model.specs.Examples.{bothFalse}
+use Rattle.model.proofs.Compute.{compute}
 use Rattle.model.proofs.Accepted.{accepted-good}
 use Rattle.model.proofs.Joins.{document-joins}
 use Rattle.model.proofs.Theorem.{packet-within, taken-fails, found-wrong}
@@ -40,3 +43,11 @@ module _ (p r : List ℕ) (accepted : Accepted p r) where
       let w = accepted-good p r accepted in
       let f = found-wrong p r w newWhereDiffers document-joins (x .0) (x .3) (x .1) (x .2) (x .4) in
       (f .0, f .1, truth-is p r (f .0) ∙ ap not (f .3))
+
+-- examples 7 and 6
+pub not-constant : NotConstant
+unfolding compute
+not-constant = record {
+  somewhereFalse = (bothFalse 36 35, [], refl, omega arith, (0 ∷ [], (omega arith, tt), refl));
+  everywhereTrue = (bothFalse 35 36, [], refl, omega arith, λ valuation. refl);
+}

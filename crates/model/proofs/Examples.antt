@@ -21,6 +21,7 @@ examples =
       oneSideFails = (refl, refl);
       wrongAllTheSame = (refl, refl);
       onWithEquations = refl;
+      havocIsNew = (refl, refl, refl);
       noRules = refl;
       keyReadOnce = (refl, refl);
     }

@@ -171,3 +171,8 @@ pub record Demand3 : Type 0 where
   pub taken : (p r valuation : List ℕ) → Accepted p r → Small p r → Within (variableWidths p r) valuation → FalseUnder p r valuation
       → Within (packetWidths p) (packetOf p valuation)
       × FailsWith p r (packetOf p valuation) (choicesOf p r valuation) (length (choicesOf p r valuation))
+
+-- The condition is not constant: one accepted pipeline's is false somewhere, and another's is true everywhere.
+pub record NotConstant : Type 0 where
+  pub somewhereFalse : (p r : List ℕ) × Accepted p r × Small p r × Falsifiable p r
+  pub everywhereTrue : (p r : List ℕ) × Accepted p r × Small p r × ((valuation : List ℕ) → conditionTruth (passiveForm p r) valuation ≡ true)

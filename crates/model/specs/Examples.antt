@@ -1,4 +1,4 @@
--- Document 01, "Examples": the marked ones, the listing's, and six of our own, as one statement over the definitions, from the words of the blocks.
+-- Document 01, "Examples": the marked ones, the listing's, and seven of our own, as one statement over the definitions, from the words of the blocks.
 -- Its proof stands in proofs/. Assumes nothing: these are definitions.
 use Prim.Native.Nat.{ℕ}
 use mathlib.Core.Path.{_≡_}
@@ -150,8 +150,8 @@ abbrev pub keyedRules : List ℕ
 keyedRules = 0 ∷ 16 ∷ 240 ∷ 0 ∷ 0 ∷ 0 ∷ 0 ∷ 0 ∷ 0 ∷ 0 ∷ 7 ∷ 0 ∷ []
 
 -- Ours: a choice of two failing asserts; of skip or a failing assert; of a failing assert that an assume false follows, or a failing
--- assert; a table whose rule, value 16 under mask 240, changes its own
--- key, field 0, to 32, and whose default fails.
+-- assert; assume field 0 = 0, havoc field 0, assert field 0 = 0; a table whose rule, value 16 under mask 240, changes its own key, field 0, to
+-- 32, and whose default fails.
 abbrev pub eitherFails : List ℕ
 eitherFails =
     (1 ∷ 5 ∷ 0 ∷ 0 ∷ 4 ∷ [])
@@ -183,6 +183,22 @@ failsBeforeBlock =
     ++ (16 ∷ 0 ∷ 0 ∷ 0 ∷ [])  -- 5: false
     ++ (36 ∷ 5 ∷ 0 ∷ 0 ∷ [])  -- 6: assert
     ++ (38 ∷ 4 ∷ 6 ∷ 0 ∷ [])  -- 7: or
+
+abbrev pub zeroThenAny : List ℕ
+zeroThenAny =
+    (1 ∷ 11 ∷ 0 ∷ 0 ∷ 10 ∷ [])
+    ++ (8 ∷ [])
+    ++ (2 ∷ 0 ∷ 0 ∷ 0 ∷ [])  -- 0: field 0
+    ++ (1 ∷ 0 ∷ 8 ∷ 0 ∷ [])  -- 1: 0
+    ++ (17 ∷ 0 ∷ 1 ∷ 0 ∷ [])  -- 2: equal
+    ++ (35 ∷ 2 ∷ 0 ∷ 0 ∷ [])  -- 3: assume
+    ++ (34 ∷ 0 ∷ 0 ∷ 0 ∷ [])  -- 4: havoc field 0
+    ++ (37 ∷ 3 ∷ 4 ∷ 0 ∷ [])  -- 5: then
+    ++ (2 ∷ 0 ∷ 0 ∷ 0 ∷ [])  -- 6: field 0
+    ++ (1 ∷ 0 ∷ 8 ∷ 0 ∷ [])  -- 7: 0
+    ++ (17 ∷ 6 ∷ 7 ∷ 0 ∷ [])  -- 8: equal
+    ++ (36 ∷ 8 ∷ 0 ∷ 0 ∷ [])  -- 9: assert
+    ++ (37 ∷ 5 ∷ 9 ∷ 0 ∷ [])  -- 10: then
 
 abbrev pub keyChanged : List ℕ
 keyChanged =
@@ -249,6 +265,9 @@ pub record ExampleRows : Type 0 where
   pub wrongAllTheSame : (truth failsBeforeBlock [] (5 ∷ []) ≡ done false) × (choicesTaken failsBeforeBlock [] (5 ∷ []) ≡ done (0 ∷ []))
   -- a side goes on only with its join's equations: of example 8, at (5, 1, 5), the second
   pub onWithEquations : choicesTaken assignOrSkip [] (5 ∷ 1 ∷ 5 ∷ []) ≡ done (1 ∷ [])
+  -- what a havoc gives is not what the field held
+  pub havocIsNew : (ends zeroThenAny [] (0 ∷ []) (1 ∷ []) ≡ done (2 ∷ 9 ∷ 1 ∷ 1 ∷ []))
+      × (truth zeroThenAny [] (0 ∷ 1 ∷ []) ≡ done false) × (choicesTaken zeroThenAny [] (0 ∷ 1 ∷ []) ≡ done (1 ∷ []))
   -- a table without rules is its default's body: constant, variable, equal, assume
   pub noRules : sizes keyless [] ≡ done (4 ∷ 2 ∷ [])
   -- the packet that hit is not tried again after its key has changed
