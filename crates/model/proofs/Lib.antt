@@ -2,3 +2,4 @@
 pub mod Compute
 pub mod Examples
 pub mod GoodForms
+pub mod Refusals
