@@ -3,3 +3,5 @@ pub mod Compute
 pub mod Examples
 pub mod GoodForms
 pub mod Refusals
+pub mod Hits
+pub mod Exact
