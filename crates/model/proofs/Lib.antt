@@ -5,3 +5,4 @@ pub mod GoodForms
 pub mod Refusals
 pub mod Hits
 pub mod Exact
+pub mod Answers
