@@ -2,7 +2,11 @@
 pub mod Compute
 pub mod Examples
 pub mod GoodForms
+pub mod Lists
+pub mod NodeList
+pub mod Entries
 pub mod Refusals
 pub mod Hits
 pub mod Exact
 pub mod Answers
+pub mod Formed
