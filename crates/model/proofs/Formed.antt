@@ -1,16 +1,16 @@
 -- The nodes of a well-formed passive statement have their sorts. Assumes nothing.
-use Prim.Native.Nat.{ℕ, suc, _+_, _*_, _-_, _^_, _<_, _≤_}
+use Prim.Native.Nat.{ℕ, suc, _+_, _^_, _<_, _≤_}
 use native.Mathlib.Nat.{add-suc}
 use native.Mathlib.Omega.{arith}
-use mathlib.Core.Path.{_≡_, refl, sym, ap, _∙_}
-use mathlib.Core.Bool.{Bool, true, false, _&&_}
+use mathlib.Core.Path.{_≡_, refl, _∙_}
+use mathlib.Core.Bool.{Bool, true, false}
 use mathlib.Core.List.{List, [], _∷_}
-use lib.Dec.{eqb, ltb, leb}
+use lib.Dec.{ltb}
 use lib.ListN.{getD, length}
 use borrow.Author.Tests.{lt-ltb, le-leb, eq-eqb, ltb-true, ltb-false}
 use Rattle.model.specs.Lists.{build, times}
-use Rattle.model.specs.Blocks.{Node, node, words, plainNode}
-use Rattle.model.specs.Nodes.{numberOf, allowed, unusedZero, isFormed, alike, sortBy, sortOf, only}
+use Rattle.model.specs.Blocks.{Node, node}
+use Rattle.model.specs.Nodes.{numberOf, allowed, unusedZero, isFormed, alike, sortBy, sortOf}
 use Rattle.model.specs.Trees.{Val, Test}
 use Rattle.model.specs.Good.{Width, widthOfValue, GoodValue, GoodTest}
 use Rattle.model.specs.Passive.{Passive, Equation, _then_}
@@ -19,7 +19,7 @@ use Rattle.model.specs.declared.Stage.{Stage}
 use Rattle.model.specs.declared.Sort.{Sort}
 use Rattle.model.proofs.GoodForms.{AllWidths, GoodEquations, GoodPassive}
 use Rattle.model.proofs.Lists.{made, build-at}
-use Rattle.model.proofs.NodeList.{kindOf-number, entry-allowed, binary-allowed, compare-allowed, connect-allowed, Span, Own, Then, SpansValue, SpansTest, Tied, Joined, tied-order, SpansStatement, equality}
+use Rattle.model.proofs.NodeList.{kindOf-number, entry-allowed, binary-allowed, compare-allowed, connect-allowed, Own, SpansValue, SpansTest, Tied, Joined, tied-order, SpansStatement, equality}
 
 -- the width of a well-formed value is one
 module _ (ws : List ℕ) (all : AllWidths ws) where

@@ -10,3 +10,4 @@ pub mod Hits
 pub mod Exact
 pub mod Answers
 pub mod Formed
+pub mod EntrySorts
