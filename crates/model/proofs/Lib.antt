@@ -11,3 +11,4 @@ pub mod Exact
 pub mod Answers
 pub mod Formed
 pub mod EntrySorts
+pub mod Accepts
