@@ -30,8 +30,11 @@ entriesOf-length i m =
     (either-way A (eqb k 35) refl (either-way A (eqb k 36) refl (either-way A (eqb k 37) refl (either-way A (eqb k 38) refl refl)))))
 
 -- a value's or a test's first entry is the same node over its children's
+abbrev pub overEntries : Kind → ℕ → ℕ → ℕ → Node
+overEntries k a b c = let w = roles k in node (numberOf k) (renumberedIn on (w .a) a) (renumberedIn on (w .b) b) (renumberedIn on (w .c) c)
+
 pub expression-entry : (k : Kind) (i a b c : ℕ) → allowed Stage.Condition (numberOf k) ≡ true
-    → getD (entriesOf i (node (numberOf k) a b c)) 0 no ≡ node (numberOf k) (renumberedIn on (roles k .a) a) (renumberedIn on (roles k .b) b) (renumberedIn on (roles k .c) c)
+    → getD (entriesOf i (node (numberOf k) a b c)) 0 no ≡ overEntries k a b c
 unfolding entriesOf
 expression-entry k i a b c h = rw (entry-below (numberOf k) h, kindIn-number k)
 

@@ -1,38 +1,36 @@
 -- Where every node of a passive form is formed, so is every entry of its condition. Assumes nothing.
 use Prim.Native.Nat.{ℕ, zero, suc, _+_, _*_, _-_, _/_, _<_, _≤_}
-use native.Mathlib.Nat.{add-zero, not-suc-le-zero, eq-or-lt-of-le, le-of-suc-le-suc}
+use native.Mathlib.Nat.{add-zero, eq-or-lt-of-le}
 use native.Mathlib.Omega.{arith}
 use mathlib.Core.Path.{_≡_, refl, sym, ap, _∙_}
 use mathlib.Core.Logic.{_⊎_, inl, inr, ⊎-elim}
-use mathlib.Core.Bool.{Bool, true, false, _&&_}
+use mathlib.Core.Bool.{Bool, true, false, _&&_, false≢true}
 use mathlib.Core.List.{List, [], _∷_}
 use lib.Dec.{eqb, ltb, leb}
-use lib.ListN.{getD, length, List·getD-eq-default}
+use lib.ListN.{getD, length}
 use borrow.Author.Tests.{eqb-true, lt-ltb, le-leb, ltb-true, ltb-false}
 use Rattle.bits.specs.Width.{fits}
-use Rattle.model.specs.Lists.{if_then_else_, build, times}
-use Rattle.model.specs.Blocks.{Node, node}
+use Rattle.model.specs.Lists.{if_then_else_, each, build, joined, times}
+use Rattle.model.specs.Blocks.{Node, node, words, plainNode}
 use Rattle.model.specs.Nodes.{numberOf, kinds, kindIn, kindOf, allowed, Role, child, number, unused, roles, renumberedIn, zeroIn, unusedZero, widthOf, isTest, isStatement, isFormed, isWidth, isValue, alike, only, sortBy, sortOf}
-use Rattle.model.specs.Condition.{no, notEntry, on, entriesOf}
+use Rattle.model.specs.Condition.{nodeCount, no, notEntry, on, entriesOf, conditionOf}
 use Rattle.model.specs.declared.Connective.{Connective}
 use Rattle.model.specs.declared.Kind.{Kind}
 use Rattle.model.specs.declared.Stage.{Stage}
 use Rattle.model.specs.declared.Sort.{Sort}
-use Rattle.model.proofs.Lists.{made, length-build}
-use Rattle.model.proofs.NodeList.{entry-below, binary-allowed, compare-allowed, connect-allowed}
-use Rattle.model.proofs.Entries.{expression-entry}
+use Rattle.model.proofs.Lists.{made, length-each, each-at}
+use Rattle.model.proofs.Every.{both-true, build-past, from-below}
+use Rattle.model.proofs.NodeList.{nodeCount-words, plainNode-words, entry-below, binary-allowed, compare-allowed, connect-allowed}
+use Rattle.model.proofs.Entries.{overEntries, expression-entry, length-condition, entryAt, owned-entry, last-entry}
 use Rattle.model.proofs.Formed.{step, sort, sort-before, node-sort}
-
-both-true : (a b : Bool) → a && b ≡ true → (a ≡ true) × (b ≡ true)
-both-true true b h = (refl, h)
-both-true false b h = (h, cc)
 
 -- ---- what a formed node is
 
-kind-number : (ks : List Kind) (m : ℕ) → (kindIn ks m ≡ Kind.Unknown) ⊎ (m ≡ numberOf (kindIn ks m))
+-- a number that has a kind is that kind's
+kind-or-unknown : (ks : List Kind) (m : ℕ) → (kindIn ks m ≡ Kind.Unknown) ⊎ (m ≡ numberOf (kindIn ks m))
 unfolding kindIn
-kind-number [] m = inl refl
-kind-number (k ∷ ks) m = go (eqb m (numberOf k)) refl (kind-number ks m)
+kind-or-unknown [] m = inl refl
+kind-or-unknown (k ∷ ks) m = go (eqb m (numberOf k)) refl (kind-or-unknown ks m)
   where
     go : (b : Bool) → eqb m (numberOf k) ≡ b → (kindIn ks m ≡ Kind.Unknown) ⊎ (m ≡ numberOf (kindIn ks m))
         → (_≡_ {A = Kind} (if b then k else kindIn ks m) Kind.Unknown) ⊎ (m ≡ numberOf (if b then k else kindIn ks m))
@@ -53,10 +51,10 @@ record Known (stage : Stage) (ws : List ℕ) (before : List Sort) (m : Node) (k 
 formed-node : (stage : Stage) (ws : List ℕ) (before : List Sort) (m : Node) → isFormed (sortOf stage ws 0 before m) ≡ true
     → Known stage ws before m (kindOf stage (m .kind))
 unfolding sortOf
-formed-node stage ws before m h = go (allowed stage (m .kind)) refl (kind-number kinds (m .kind)) h
+formed-node stage ws before m h = go (allowed stage (m .kind)) refl (kind-or-unknown kinds (m .kind)) h
   where
     unknown : {A : Type 0} → isFormed (only (unusedZero Kind.Unknown m) Sort.Malformed) ≡ true → A
-    unknown e = let z : _≡_ {A = Bool} false true = only-formed (unusedZero Kind.Unknown m) Sort.Malformed e .1 in absurd (let w : _≡_ {A = ℕ} 0 1 = cc in omega arith)
+    unknown e = absurd (false≢true (only-formed (unusedZero Kind.Unknown m) Sort.Malformed e .1))
 
     found : (k : Kind) → m .kind ≡ numberOf k → allowed stage (m .kind) ≡ true
         → isFormed (only (unusedZero k m) (sortBy ws 0 (λ x. getD before x Sort.Malformed) k (m .a) (m .b) (m .c))) ≡ true → Known stage ws before m k
@@ -119,8 +117,33 @@ value-formed Sort.Statement h = refl
 -- Over children that kept their sorts at new numbers, a value or a test keeps its own.
 module _ (ws : List ℕ) (g g′ : ℕ → Sort) (f : ℕ → ℕ) (value : (x : ℕ) → isValue (g x) ≡ true → g′ (f x) ≡ g x)
     (test : (x : ℕ) → isTest (g x) ≡ true → g′ (f x) ≡ g x) where
-  kept : (k : Kind) (a b c : ℕ) → allowed Stage.Condition (numberOf k) ≡ true → isFormed (sortBy ws 0 g k a b c) ≡ true
+  abbrev Keeps : Kind → ℕ → ℕ → ℕ → Type 0
+  Keeps k a b c =
+      isFormed (sortBy ws 0 g k a b c) ≡ true
       → sortBy ws 0 g′ k (renumberedIn f (roles k .a) a) (renumberedIn f (roles k .b) b) (renumberedIn f (roles k .c) c) ≡ entrySort (sortBy ws 0 g k a b c)
+
+  slice-kept : (a b c : ℕ) → Keeps Kind.Slice a b c
+  slice-kept a b c e =
+      let q = only-formed (ltb b (widthOf (g a)) && leb c b) (Sort.Value (b - c + 1)) e .0 in
+      let l = both-true (ltb b (widthOf (g a))) (leb c b) q in
+      let v = lt-ltb 0 (widthOf (g a)) (omega (arith, ltb-true b (widthOf (g a)) (l .0))) in
+      rw (value a v, q)
+
+  join-kept : (a b c : ℕ) → Keeps Kind.Join a b c
+  join-kept a b c e =
+      let total = widthOf (g a) + widthOf (g b) in
+      let q = only-formed (isValue (g a) && isValue (g b) && leb total 32) (Sort.Value total) e .0 in
+      let v = both-true (isValue (g a)) (isValue (g b)) (both-true (isValue (g a) && isValue (g b)) (leb total 32) q .0) in
+      rw (value a (v .0), value b (v .1), q)
+
+  select-kept : (a b c : ℕ) → Keeps Kind.Select a b c
+  select-kept a b c e =
+      let q = only-formed (isTest (g a) && alike (g b) (g c)) (g b) e .0 in
+      let t = both-true (isTest (g a)) (alike (g b) (g c)) q in
+      let v = alike-parts (g b) (g c) (t .1) in
+      rw (test a (t .0), value b (v .0), value c (v .1), q, value-kept (g b) (v .0))
+
+  kept : (k : Kind) (a b c : ℕ) → allowed Stage.Condition (numberOf k) ≡ true → Keeps k a b c
   unfolding times
   kept Kind.Constant a b c h e = rw (only-formed (isWidth b && fits b a) (Sort.Value b) e .0)
   kept Kind.Field a b c h e = rw (only-formed (ltb a (length ws)) (Sort.Value (getD ws a 0)) e .0)
@@ -129,24 +152,10 @@ module _ (ws : List ℕ) (g g′ : ℕ → Sort) (f : ℕ → ℕ) (value : (x :
       let q = only-formed (alike (g a) (g b)) (g a) e .0 in
       let v = alike-parts (g a) (g b) q in
       rw (value a (v .0), value b (v .1), q, value-kept (g a) (v .0))
-  kept Kind.Complement a b c h e =
-      let q = only-formed (isValue (g a)) (g a) e .0 in
-      rw (value a q, q, value-kept (g a) q)
-  kept Kind.Slice a b c h e =
-      let q = only-formed (ltb b (widthOf (g a)) && leb c b) (Sort.Value (b - c + 1)) e .0 in
-      let l = both-true (ltb b (widthOf (g a))) (leb c b) q in
-      let v = lt-ltb 0 (widthOf (g a)) (omega (arith, ltb-true b (widthOf (g a)) (l .0))) in
-      rw (value a v, q)
-  kept Kind.Join a b c h e =
-      let total = widthOf (g a) + widthOf (g b) in
-      let q = only-formed (isValue (g a) && isValue (g b) && leb total 32) (Sort.Value total) e .0 in
-      let v = both-true (isValue (g a)) (isValue (g b)) (both-true (isValue (g a) && isValue (g b)) (leb total 32) q .0) in
-      rw (value a (v .0), value b (v .1), q)
-  kept Kind.Select a b c h e =
-      let q = only-formed (isTest (g a) && alike (g b) (g c)) (g b) e .0 in
-      let t = both-true (isTest (g a)) (alike (g b) (g c)) q in
-      let v = alike-parts (g b) (g c) (t .1) in
-      rw (test a (t .0), value b (v .0), value c (v .1), q, value-kept (g b) (v .0))
+  kept Kind.Complement a b c h e = let q = only-formed (isValue (g a)) (g a) e .0 in rw (value a q, q, value-kept (g a) q)
+  kept Kind.Slice a b c h e = slice-kept a b c e
+  kept Kind.Join a b c h e = join-kept a b c e
+  kept Kind.Select a b c h e = select-kept a b c e
   kept Kind.Truth a b c h e = rw (only-formed (leb a 1) Sort.Test e .0)
   kept (Kind.Compare o) a b c h e =
       let q = only-formed (alike (g a) (g b)) Sort.Test e .0 in
@@ -172,9 +181,8 @@ zero-kept f child x = refl
 zero-kept f number x = refl
 zero-kept f unused x = refl
 
-zeros-kept : (f : ℕ → ℕ) (k : Kind) (m : Node) → unusedZero k m ≡ true
-    → unusedZero k (node (numberOf k) (renumberedIn f (roles k .a) (m .a)) (renumberedIn f (roles k .b) (m .b)) (renumberedIn f (roles k .c) (m .c))) ≡ true
-zeros-kept f k m h = rw (zero-kept f (roles k .a) (m .a), zero-kept f (roles k .b) (m .b), zero-kept f (roles k .c) (m .c)) h
+zeros-kept : (k : Kind) (m : Node) → unusedZero k m ≡ true → unusedZero k (overEntries k (m .a) (m .b) (m .c)) ≡ true
+zeros-kept k m h = rw (zero-kept on (roles k .a) (m .a), zero-kept on (roles k .b) (m .b), zero-kept on (roles k .c) (m .c)) h
 
 -- ---- entries
 
@@ -224,10 +232,7 @@ module _ (ws : List ℕ) (nodes entries : ℕ → Node) (n : ℕ)
       where
         go : (b : Bool) → ltb x i ≡ b → x < i
         go true e = ltb-true x i e
-        go false e =
-            let k : length (build (step Stage.Passive ws nodes) i) ≤ x = omega (arith, length-build (step Stage.Passive ws nodes) i, ltb-false x i e) in
-            let z : _≡_ {A = Bool} false true = rw (List·getD-eq-default (build (step Stage.Passive ws nodes) i) Sort.Malformed k) at f in
-            absurd (let w : _≡_ {A = ℕ} 0 1 = cc in omega arith)
+        go false e = absurd (false≢true (rw (build-past (step Stage.Passive ws nodes) i x Sort.Malformed (ltb-false x i e)) at f))
 
     child-first : (x : ℕ) → isFormed (own x) ≡ true → sortOfEntry (3 * x) ≡ entrySort (own x)
     child-first x f = before x (there x f) .first ∙ ap entrySort (sym (sort-before Stage.Passive ws nodes i x (there x f) refl))
@@ -259,7 +264,7 @@ module _ (ws : List ℕ) (nodes entries : ℕ → Node) (n : ℕ)
           let m = nodes i in
           let value : (x : ℕ) → isValue (own x) ≡ true → entrys (3 * x) ≡ own x = λ x v. child-kept x (value-formed (own x) v) (value-kept (own x) v) in
           let test : (x : ℕ) → isTest (own x) ≡ true → entrys (3 * x) ≡ own x = λ x t. child-kept x (rw (test-is (own x) t)) (rw (test-is (own x) t)) in
-          let zeros = zeros-kept on k m (known .zeros) in
+          let zeros = zeros-kept k m (known .zeros) in
           let e = first-of l (known .is) ∙ expression-entry k i (m .a) (m .b) (m .c) h in
           record {
             first = node-sort Stage.Condition ws entries k h zeros e ∙ kept ws own entrys on value test k (m .a) (m .b) (m .c) h (known .good) ∙ ap entrySort (sym its-sort);
@@ -324,14 +329,11 @@ module _ (ws : List ℕ) (nodes entries : ℕ → Node) (n : ℕ)
         (truth-sort (3 * i + 1) 0 (omega arith) (entry-of 1 (omega arith) l (h .is)))
         (connect-sort Connective.Or (3 * i + 2) (omega arith) (omega arith) (x .2) (y .2) (entry-of 2 (omega arith) l (h .is)))
 
-    absent : _≡_ {A = Bool} false true → Owns i
-    absent h = absurd (let z : _≡_ {A = ℕ} 0 1 = cc in omega arith)
-
     known-owns : (k : Kind) → Knows k → Owns i
     unfolding times
     known-owns Kind.Constant h = expression Kind.Constant h refl
     known-owns Kind.Field h = expression Kind.Field h refl
-    known-owns Kind.Parameter h = absent (h .may)
+    known-owns Kind.Parameter h = absurd (false≢true (h .may))
     known-owns (Kind.Binary o) h = expression (Kind.Binary o) h (binary-allowed o)
     known-owns Kind.Complement h = expression Kind.Complement h refl
     known-owns Kind.Slice h = expression Kind.Slice h refl
@@ -342,14 +344,14 @@ module _ (ws : List ℕ) (nodes entries : ℕ → Node) (n : ℕ)
     known-owns Kind.Not h = expression Kind.Not h refl
     known-owns (Kind.Connect o) h = expression (Kind.Connect o) h (connect-allowed o)
     known-owns Kind.Skip h = skip-owns h
-    known-owns Kind.Assign h = absent (h .may)
-    known-owns Kind.Havoc h = absent (h .may)
+    known-owns Kind.Assign h = absurd (false≢true (h .may))
+    known-owns Kind.Havoc h = absurd (false≢true (h .may))
     known-owns Kind.Assume h = assume-owns h
     known-owns Kind.Assert h = assert-owns h
     known-owns Kind.Sequence h = sequence-owns h
     known-owns Kind.Choice h = choice-owns h
-    known-owns Kind.Apply h = absent (h .may)
-    known-owns Kind.Unknown h = absent (h .good)
+    known-owns Kind.Apply h = absurd (false≢true (h .may))
+    known-owns Kind.Unknown h = absurd (false≢true (h .good))
 
   -- ---- all entries
 
@@ -359,14 +361,8 @@ module _ (ws : List ℕ) (nodes entries : ℕ → Node) (n : ℕ)
     node-owns i l before =
         known-owns i l before (kindOf Stage.Passive (nodes i .kind)) (formed-node Stage.Passive ws (build (step Stage.Passive ws nodes) i) (nodes i) (formed i l))
 
-    owns-below : (m : ℕ) → m ≤ n → (i : ℕ) → i < m → Owns i
-    owns-below zero h i k = absurd (not-suc-le-zero k)
-    owns-below (suc m) h i k =
-        let before = owns-below m (omega arith) in
-        ⊎-elim (λ e. node-owns i (omega arith) (λ x b. before x (omega arith))) (before i) (eq-or-lt-of-le (le-of-suc-le-suc k))
-
     pub owns-all : (i : ℕ) → i < n → Owns i
-    owns-all i h = owns-below n (omega arith) i h
+    owns-all = from-below (λ i. i < n → Owns i) (λ i before l. node-owns i l (λ x h. before x h (omega arith)))
 
     -- the last entry is a test, and each is formed
     module _ (some : 0 < n) (end : entries (3 * n) ≡ notEntry (3 * n - 1)) where
@@ -385,3 +381,56 @@ module _ (ws : List ℕ) (nodes entries : ℕ → Node) (n : ℕ)
           go (suc zero) e k = ap isFormed (ap sortOfEntry e ∙ owns-all (j / 3) k .second)
           go (suc (suc zero)) e k = ap isFormed (ap sortOfEntry e ∙ owns-all (j / 3) k .third)
           go (suc (suc (suc r))) e k = absurd (omega arith)
+
+-- ---- the condition of any words
+
+joined-same : {A : Type 0} (f g : ℕ → List A) (n : ℕ) → ((i : ℕ) → i < n → f i ≡ g i) → joined f n ≡ joined g n
+unfolding joined
+joined-same f g zero h = refl
+joined-same f g (suc n) h = rw (joined-same f g n (λ i k. h i (omega arith)), h n (omega arith))
+
+module _ (form : List ℕ) where
+  -- the nodes that the words hold
+  abbrev nodesIn : List Node
+  nodesIn = each (plainNode form) (nodeCount form)
+
+  length-in : length nodesIn ≡ nodeCount form
+  length-in = length-each (plainNode form) (nodeCount form)
+
+  node-in : (i : ℕ) → i < nodeCount form → plainNode (words nodesIn) i ≡ plainNode form i
+  node-in i h = plainNode-words nodesIn i no (rw length-in h) ∙ each-at (plainNode form) (nodeCount form) i no h
+
+  condition-in : conditionOf (words nodesIn) ≡ conditionOf form
+  unfolding conditionOf
+  condition-in =
+      rw (
+        nodeCount-words nodesIn,
+        length-in,
+        joined-same (λ i. entriesOf i (plainNode (words nodesIn) i)) (λ i. entriesOf i (plainNode form i)) (nodeCount form) (λ i h. ap (entriesOf i) (node-in i h)),
+      )
+
+  pub length-built : length (conditionOf form) ≡ 3 * nodeCount form + 1
+  length-built = ap length (sym condition-in) ∙ length-condition nodesIn ∙ omega (arith, length-in)
+
+  abbrev builtAt : ℕ → Node
+  builtAt = plainNode (words (conditionOf form))
+
+  built-entry : (j : ℕ) → builtAt j ≡ entryAt nodesIn j
+  built-entry j = ap (λ (es : List Node). plainNode (words es) j) (sym condition-in)
+
+  built-owned : (i r : ℕ) → i < nodeCount form → r < 3 → builtAt (3 * i + r) ≡ getD (entriesOf i (plainNode form i)) r no
+  built-owned i r h k =
+      built-entry (3 * i + r) ∙ owned-entry nodesIn i r (rw length-in h) k ∙ ap (λ (m : Node). getD (entriesOf i m) r no) (node-in i h)
+
+  built-last : builtAt (3 * nodeCount form) ≡ notEntry (3 * nodeCount form - 1)
+  built-last = built-entry (3 * nodeCount form) ∙ rw length-in at (last-entry nodesIn)
+
+  -- where every node is formed, so is every entry, and the last is a test
+  module _ (ws : List ℕ) (some : 0 < nodeCount form) (formed : (i : ℕ) → i < nodeCount form → isFormed (sort Stage.Passive ws (plainNode form) i) ≡ true) where
+    pub entries-formed : (j : ℕ) → j < length (conditionOf form) → isFormed (sort Stage.Condition ws builtAt j) ≡ true
+    entries-formed j h = entry-formed ws (plainNode form) builtAt (nodeCount form) built-owned formed some built-last j (omega (arith, length-built))
+
+    pub entries-end : (j : ℕ) → suc j ≡ length (conditionOf form) → isTest (sort Stage.Condition ws builtAt j) ≡ true
+    entries-end j e =
+        let z : j ≡ 3 * nodeCount form = omega (arith, length-built) in
+        rw (z, last-test ws (plainNode form) builtAt (nodeCount form) built-owned formed some built-last)

@@ -10,10 +10,11 @@ use lib.ListN.{getD, length}
 use borrow.Author.Tests.{lt-ltb, le-leb, eq-eqb, ltb-true, ltb-false}
 use Rattle.model.specs.Lists.{build, times}
 use Rattle.model.specs.Blocks.{Node, node}
-use Rattle.model.specs.Nodes.{numberOf, allowed, unusedZero, isFormed, alike, sortBy, sortOf}
+use Rattle.model.specs.Nodes.{numberOf, allowed, unusedZero, isFormed, alike, sortBy, sortOf, sorts}
 use Rattle.model.specs.Trees.{Val, Test}
 use Rattle.model.specs.Good.{Width, widthOfValue, GoodValue, GoodTest}
 use Rattle.model.specs.Passive.{Passive, Equation, _then_}
+use Rattle.model.specs.Refusals.{sortAt}
 use Rattle.model.specs.declared.Kind.{Kind}
 use Rattle.model.specs.declared.Stage.{Stage}
 use Rattle.model.specs.declared.Sort.{Sort}
@@ -42,6 +43,10 @@ module _ (stage : Stage) (ws : List ℕ) (nodes : ℕ → Node) where
   -- the sort that node i has
   unfoldable pub sort : ℕ → Sort
   sort i = made step i
+
+  pub sorts-at : (n i : ℕ) → i < n → sortAt (sorts stage ws 0 nodes n) i ≡ sort i
+  unfolding sort step
+  sorts-at n i h = build-at step n i Sort.Malformed h
 
   pub sort-before : (i x : ℕ) {s : Sort} → x < i → sort x ≡ s → getD (build step i) x Sort.Malformed ≡ s
   unfolding sort

@@ -3,6 +3,7 @@ pub mod Compute
 pub mod Examples
 pub mod GoodForms
 pub mod Lists
+pub mod Every
 pub mod NodeList
 pub mod Entries
 pub mod Refusals

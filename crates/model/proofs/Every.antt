@@ -1,0 +1,122 @@
+-- What holds at every place below a number, and of every element of a list. Assumes nothing.
+use Prim.Native.Nat.{ℕ, zero, suc, _<_, _≤_}
+use native.Mathlib.Nat.{not-suc-le-zero, le-of-suc-le-suc, eq-or-lt-of-le, lt-of-lt-of-le}
+use native.Mathlib.Omega.{arith}
+use mathlib.Core.Path.{_≡_, refl, sym, _∙_}
+use mathlib.Core.Bool.{Bool, true, false, _&&_}
+use mathlib.Core.Logic.{_⊎_, inl, inr}
+use mathlib.Core.List.{List, [], _∷_, _++_}
+use lib.Dec.{eqb, ltb}
+use lib.ListN.{getD, List·getD-eq-default}
+use borrow.Author.Tests.{eq-eqb, lt-ltb}
+use Rattle.model.specs.Lists.{if_then_else_, build, each, every, exists, those, times, among}
+use Rattle.model.specs.Tables.{placed, ordered}
+use Rattle.model.proofs.Lists.{length-build, build-at}
+
+-- ---- places
+
+pub both-true : (a b : Bool) → a && b ≡ true → (a ≡ true) × (b ≡ true)
+both-true true b h = (refl, h)
+both-true false b h = (h, cc)
+
+module _ (test : ℕ → Bool) where
+  pub every-at : (n i : ℕ) → every test n ≡ true → i < n → test i ≡ true
+  unfolding every
+  every-at zero i e h = absurd (not-suc-le-zero h)
+  every-at (suc n) i e h = go (eq-or-lt-of-le (le-of-suc-le-suc h)) (both-true (every test n) (test n) e) (every-at n i)
+    where
+      go : (i ≡ n) ⊎ (i < n) → (every test n ≡ true) × (test n ≡ true) → (every test n ≡ true → i < n → test i ≡ true) → test i ≡ true
+      go (inl k) b rec = rw k (b .1)
+      go (inr k) b rec = rec (b .0) k
+
+  pub exists-at : (n i : ℕ) → test i ≡ true → i < n → exists test n ≡ true
+  unfolding exists
+  exists-at zero i e h = absurd (not-suc-le-zero h)
+  exists-at (suc n) i e h = go (eq-or-lt-of-le (le-of-suc-le-suc h)) (exists test n) refl (exists-at n i e)
+    where
+      go : (i ≡ n) ⊎ (i < n) → (b : Bool) → exists test n ≡ b → (i < n → exists test n ≡ true) → (if b then true else test n) ≡ true
+      go k true q rec = refl
+      go (inl k) false q rec = rw (← k) e
+      go (inr k) false q rec = cc (rec k)
+
+-- a list made front to back: an earlier one has what a later one has, and past its end there is nothing
+module _ {A : Type 0} (f : List A → ℕ → A) where
+  pub build-before : (i n j : ℕ) (d : A) → j < i → i ≤ n → getD (build f i) j d ≡ getD (build f n) j d
+  build-before i n j d h k = build-at f i j d h ∙ sym (build-at f n j d (lt-of-lt-of-le h k))
+
+  pub build-past : (n j : ℕ) (d : A) → n ≤ j → getD (build f n) j d ≡ d
+  build-past n j d h = List·getD-eq-default (build f n) d (rw length-build h)
+
+-- what holds of a number wherever it holds of all below
+pub from-below : (P : ℕ → Type 0) → ((i : ℕ) → ((j : ℕ) → j < i → P j) → P i) → (i : ℕ) → P i
+from-below P step i = step i (upTo i)
+  where
+    upTo : (n j : ℕ) → j < n → P j
+    upTo zero j h = absurd (not-suc-le-zero h)
+    upTo (suc n) j h = step j (λ m k. upTo n m (lt-of-lt-of-le k (le-of-suc-le-suc h)))
+
+-- ---- elements
+
+abbrev pub All : {A : Type 0} → (A → Type 0) → List A → Type 0
+All P [] = Unit {0}
+All P (x ∷ xs) = P x × All P xs
+
+module _ (P : ℕ → Type 0) where
+  pub all-append : (xs ys : List ℕ) → All P xs → All P ys → All P (xs ++ ys)
+  all-append [] ys h k = k
+  all-append (x ∷ xs) ys h k = (h .0, all-append xs ys (h .1) k)
+
+  pub all-left : (xs ys : List ℕ) → All P (xs ++ ys) → All P xs
+  all-left [] ys h = tt
+  all-left (x ∷ xs) ys h = (h .0, all-left xs ys (h .1))
+
+  pub all-right : (xs ys : List ℕ) → All P (xs ++ ys) → All P ys
+  all-right [] ys h = h
+  all-right (x ∷ xs) ys h = all-right xs ys (h .1)
+
+  pub all-each : (f : ℕ → ℕ) (n : ℕ) → ((i : ℕ) → i < n → P (f i)) → All P (each f n)
+  unfolding each
+  all-each f zero h = tt
+  all-each f (suc n) h = all-append (each f n) _ (all-each f n (λ i k. h i (omega arith))) (h n (omega arith), tt)
+
+  all-placed : (before : ℕ → ℕ → Bool) (i : ℕ) (js : List ℕ) → P i → All P js → All P (placed before i js)
+  unfolding placed
+  all-placed before i [] h k = (h, tt)
+  all-placed before i (j ∷ js) h k = go (before i j) (all-placed before i js h (k .1))
+    where
+      go : (b : Bool) → All P (placed before i js) → All P (if b then i ∷ j ∷ js else j ∷ placed before i js)
+      go true rec = (h, k)
+      go false rec = (k .0, rec)
+
+  pub all-ordered : (before : ℕ → ℕ → Bool) (xs : List ℕ) → All P xs → All P (ordered before xs)
+  unfolding ordered
+  all-ordered before [] h = tt
+  all-ordered before (i ∷ is) h = all-placed before i (ordered before is) (h .0) (all-ordered before is (h .1))
+
+  pub all-those : (test : ℕ → Bool) (xs : List ℕ) → All P xs → All (λ x. P x × (test x ≡ true)) (those test xs)
+  unfolding those
+  all-those test [] h = tt
+  all-those test (x ∷ xs) h = go (test x) refl (all-those test xs (h .1))
+    where
+      go : (b : Bool) → test x ≡ b → All (λ y. P y × (test y ≡ true)) (those test xs)
+          → All (λ y. P y × (test y ≡ true)) (if b then x ∷ those test xs else those test xs)
+      go true e rec = ((h .0, e), rec)
+      go false e rec = rec
+
+-- an element stands in its list
+among-here : (x : ℕ) (xs : List ℕ) → among x (x ∷ xs) ≡ true
+unfolding times
+among-here x xs = rw (eq-eqb x x refl) (lt-ltb 0 (suc (times x xs)) (omega arith))
+
+among-there : (x y : ℕ) (xs : List ℕ) → among x xs ≡ true → among x (y ∷ xs) ≡ true
+unfolding times
+among-there x y xs h = go (eqb x y)
+  where
+    go : (b : Bool) → ltb 0 (if b then suc (times x xs) else times x xs) ≡ true
+    go true = lt-ltb 0 (suc (times x xs)) (omega arith)
+    go false = h
+
+-- what holds of every element gives what follows from it for those that stand in the list
+pub all-with : (P Q : ℕ → Type 0) (xs : List ℕ) → ((x : ℕ) → among x xs ≡ true → P x → Q x) → All P xs → All Q xs
+all-with P Q [] f h = tt
+all-with P Q (x ∷ xs) f h = (f x (among-here x xs) (h .0), all-with P Q xs (λ y m k. f y (among-there y x xs m) k) (h .1))
