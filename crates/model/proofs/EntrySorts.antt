@@ -42,14 +42,14 @@ only-formed true s h = (refl, h)
 only-formed false s h = (cc, cc)
 
 -- the kind and the words of a formed node, and its sort
-record Known (stage : Stage) (ws : List ℕ) (before : List Sort) (m : Node) (k : Kind) : Type 0 where
+record HasKind (stage : Stage) (ws : List ℕ) (before : List Sort) (m : Node) (k : Kind) : Type 0 where
   is : m ≡ node (numberOf k) (m .a) (m .b) (m .c)
   may : allowed stage (numberOf k) ≡ true
   zeros : unusedZero k m ≡ true
   good : isFormed (sortBy ws 0 (λ x. getD before x Sort.Malformed) k (m .a) (m .b) (m .c)) ≡ true
 
 formed-node : (stage : Stage) (ws : List ℕ) (before : List Sort) (m : Node) → isFormed (sortOf stage ws 0 before m) ≡ true
-    → Known stage ws before m (kindOf stage (m .kind))
+    → HasKind stage ws before m (kindOf stage (m .kind))
 unfolding sortOf
 formed-node stage ws before m h = go (allowed stage (m .kind)) refl (kind-or-unknown kinds (m .kind)) h
   where
@@ -57,14 +57,14 @@ formed-node stage ws before m h = go (allowed stage (m .kind)) refl (kind-or-unk
     unknown e = absurd (false≢true (only-formed (unusedZero Kind.Unknown m) Sort.Malformed e .1))
 
     found : (k : Kind) → m .kind ≡ numberOf k → allowed stage (m .kind) ≡ true
-        → isFormed (only (unusedZero k m) (sortBy ws 0 (λ x. getD before x Sort.Malformed) k (m .a) (m .b) (m .c))) ≡ true → Known stage ws before m k
+        → isFormed (only (unusedZero k m) (sortBy ws 0 (λ x. getD before x Sort.Malformed) k (m .a) (m .b) (m .c))) ≡ true → HasKind stage ws before m k
     found k e a f =
         let o = only-formed (unusedZero k m) (sortBy ws 0 (λ x. getD before x Sort.Malformed) k (m .a) (m .b) (m .c)) f in
         record { is = λ i. node (e i) (m .a) (m .b) (m .c); may = rw e at a; zeros = o .0; good = o .1 }
 
     go : (b : Bool) → allowed stage (m .kind) ≡ b → (kindIn kinds (m .kind) ≡ Kind.Unknown) ⊎ (m .kind ≡ numberOf (kindIn kinds (m .kind)))
         → let k = if b then kindIn kinds (m .kind) else Kind.Unknown in
-        isFormed (only (unusedZero k m) (sortBy ws 0 (λ x. getD before x Sort.Malformed) k (m .a) (m .b) (m .c))) ≡ true → Known stage ws before m k
+        isFormed (only (unusedZero k m) (sortBy ws 0 (λ x. getD before x Sort.Malformed) k (m .a) (m .b) (m .c))) ≡ true → HasKind stage ws before m k
     go false e s f = unknown f
     go true e (inl u) f = unknown (rw u at f)
     go true e (inr u) f = found (kindIn kinds (m .kind)) u e f
@@ -207,6 +207,9 @@ module _ (ws : List ℕ) (nodes entries : ℕ → Node) (n : ℕ)
   unfolding times
   truth-sort j a h e = node-sort Stage.Condition ws entries Kind.Truth refl refl e ∙ rw (le-leb a 1 h)
 
+  no-sort : (j : ℕ) → entries j ≡ no → sortOfEntry j ≡ Sort.Test
+  no-sort j e = truth-sort j 0 (omega arith) e
+
   not-sort : (j : ℕ) {x : ℕ} → x < j → sortOfEntry x ≡ Sort.Test → entries j ≡ notEntry x → sortOfEntry j ≡ Sort.Test
   unfolding times
   not-sort j {x} h s e = node-sort Stage.Condition ws entries Kind.Not refl refl e ∙ rw (read j x h s)
@@ -238,11 +241,11 @@ module _ (ws : List ℕ) (nodes entries : ℕ → Node) (n : ℕ)
     child-first x f = before x (there x f) .first ∙ ap entrySort (sym (sort-before Stage.Passive ws nodes i x (there x f) refl))
 
     -- an entry's sort, as the node's first entry reads it
-    abbrev entrys : ℕ → Sort
-    entrys x = getD (build (step Stage.Condition ws entries) (3 * i)) x Sort.Malformed
+    abbrev entryOwn : ℕ → Sort
+    entryOwn x = getD (build (step Stage.Condition ws entries) (3 * i)) x Sort.Malformed
 
     -- a value's or a test's first entry keeps its sort
-    child-kept : (x : ℕ) → isFormed (own x) ≡ true → entrySort (own x) ≡ own x → entrys (3 * x) ≡ own x
+    child-kept : (x : ℕ) → isFormed (own x) ≡ true → entrySort (own x) ≡ own x → entryOwn (3 * x) ≡ own x
     child-kept x f e = read (3 * i) (3 * x) (omega (arith, there x f)) (child-first x f ∙ e)
 
     test-child : (x : ℕ) → isTest (own x) ≡ true → (x < i) × (sortOfEntry (3 * x) ≡ Sort.Test)
@@ -254,7 +257,11 @@ module _ (ws : List ℕ) (nodes entries : ℕ → Node) (n : ℕ)
         let f : isFormed (own x) ≡ true = rw e in
         (there x f, child-first x f ∙ rw e, before x (there x f) .third)
 
-    module _ (k : Kind) (known : Known Stage.Passive ws (build (step Stage.Passive ws nodes) i) (nodes i) k) where
+    -- the node is of a kind
+    abbrev Is : Kind → Type 0
+    Is k = HasKind Stage.Passive ws (build (step Stage.Passive ws nodes) i) (nodes i) k
+
+    module _ (k : Kind) (known : Is k) where
       its-sort : nodeSort i ≡ sortBy ws 0 own k (nodes i .a) (nodes i .b) (nodes i .c)
       its-sort = node-sort Stage.Passive ws nodes k (known .may) (known .zeros) (known .is)
 
@@ -262,14 +269,14 @@ module _ (ws : List ℕ) (nodes entries : ℕ → Node) (n : ℕ)
       unfolding entriesOf
       expression h =
           let m = nodes i in
-          let value : (x : ℕ) → isValue (own x) ≡ true → entrys (3 * x) ≡ own x = λ x v. child-kept x (value-formed (own x) v) (value-kept (own x) v) in
-          let test : (x : ℕ) → isTest (own x) ≡ true → entrys (3 * x) ≡ own x = λ x t. child-kept x (rw (test-is (own x) t)) (rw (test-is (own x) t)) in
+          let value : (x : ℕ) → isValue (own x) ≡ true → entryOwn (3 * x) ≡ own x = λ x v. child-kept x (value-formed (own x) v) (value-kept (own x) v) in
+          let test : (x : ℕ) → isTest (own x) ≡ true → entryOwn (3 * x) ≡ own x = λ x t. child-kept x (rw (test-is (own x) t)) (rw (test-is (own x) t)) in
           let zeros = zeros-kept k m (known .zeros) in
           let e = first-of l (known .is) ∙ expression-entry k i (m .a) (m .b) (m .c) h in
           record {
-            first = node-sort Stage.Condition ws entries k h zeros e ∙ kept ws own entrys on value test k (m .a) (m .b) (m .c) h (known .good) ∙ ap entrySort (sym its-sort);
-            second = truth-sort (3 * i + 1) 0 (omega arith) (entry-of 1 (omega arith) l (known .is) ∙ rw (entry-below (numberOf k) h));
-            third = truth-sort (3 * i + 2) 0 (omega arith) (entry-of 2 (omega arith) l (known .is) ∙ rw (entry-below (numberOf k) h));
+            first = node-sort Stage.Condition ws entries k h zeros e ∙ kept ws own entryOwn on value test k (m .a) (m .b) (m .c) h (known .good) ∙ ap entrySort (sym its-sort);
+            second = no-sort (3 * i + 1) (entry-of 1 (omega arith) l (known .is) ∙ rw (entry-below (numberOf k) h));
+            third = no-sort (3 * i + 2) (entry-of 2 (omega arith) l (known .is) ∙ rw (entry-below (numberOf k) h));
           }
 
     -- a statement's entries are tests
@@ -277,34 +284,31 @@ module _ (ws : List ℕ) (nodes entries : ℕ → Node) (n : ℕ)
         → Owns i
     owns e x y z = record { first = x ∙ rw e; second = y; third = z }
 
-    abbrev Knows : Kind → Type 0
-    Knows k = Known Stage.Passive ws (build (step Stage.Passive ws nodes) i) (nodes i) k
-
-    skip-owns : Knows Kind.Skip → Owns i
+    skip-owns : Is Kind.Skip → Owns i
     unfolding entriesOf
     skip-owns h =
         owns (its-sort Kind.Skip h) (truth-sort (3 * i) 1 (omega arith) (first-of l (h .is)))
-        (truth-sort (3 * i + 1) 0 (omega arith) (entry-of 1 (omega arith) l (h .is))) (truth-sort (3 * i + 2) 0 (omega arith) (entry-of 2 (omega arith) l (h .is)))
+        (no-sort (3 * i + 1) (entry-of 1 (omega arith) l (h .is))) (no-sort (3 * i + 2) (entry-of 2 (omega arith) l (h .is)))
 
-    assume-owns : Knows Kind.Assume → Owns i
+    assume-owns : Is Kind.Assume → Owns i
     unfolding entriesOf
     assume-owns h =
         let q = only-formed (isTest (own (nodes i .a))) Sort.Statement (h .good) .0 in
         let x = test-child (nodes i .a) q in
         owns (its-sort Kind.Assume h ∙ rw q)
         (connect-sort Connective.And (3 * i) (omega arith) (omega arith) (x .1) (x .1) (first-of l (h .is)))
-        (truth-sort (3 * i + 1) 0 (omega arith) (entry-of 1 (omega arith) l (h .is))) (truth-sort (3 * i + 2) 0 (omega arith) (entry-of 2 (omega arith) l (h .is)))
+        (no-sort (3 * i + 1) (entry-of 1 (omega arith) l (h .is))) (no-sort (3 * i + 2) (entry-of 2 (omega arith) l (h .is)))
 
-    assert-owns : Knows Kind.Assert → Owns i
+    assert-owns : Is Kind.Assert → Owns i
     unfolding entriesOf
     assert-owns h =
         let q = only-formed (isTest (own (nodes i .a))) Sort.Statement (h .good) .0 in
         let x = test-child (nodes i .a) q in
         owns (its-sort Kind.Assert h ∙ rw q)
         (connect-sort Connective.And (3 * i) (omega arith) (omega arith) (x .1) (x .1) (first-of l (h .is)))
-        (truth-sort (3 * i + 1) 0 (omega arith) (entry-of 1 (omega arith) l (h .is))) (not-sort (3 * i + 2) (omega arith) (x .1) (entry-of 2 (omega arith) l (h .is)))
+        (no-sort (3 * i + 1) (entry-of 1 (omega arith) l (h .is))) (not-sort (3 * i + 2) (omega arith) (x .1) (entry-of 2 (omega arith) l (h .is)))
 
-    sequence-owns : Knows Kind.Sequence → Owns i
+    sequence-owns : Is Kind.Sequence → Owns i
     unfolding entriesOf
     sequence-owns h =
         let q = only-formed (isStatement (own (nodes i .a)) && isStatement (own (nodes i .b))) Sort.Statement (h .good) .0 in
@@ -317,7 +321,7 @@ module _ (ws : List ℕ) (nodes entries : ℕ → Node) (n : ℕ)
         second
         (connect-sort Connective.Or (3 * i + 2) (omega arith) (omega arith) (x .2) second (entry-of 2 (omega arith) l (h .is)))
 
-    choice-owns : Knows Kind.Choice → Owns i
+    choice-owns : Is Kind.Choice → Owns i
     unfolding entriesOf
     choice-owns h =
         let q = only-formed (isStatement (own (nodes i .a)) && isStatement (own (nodes i .b))) Sort.Statement (h .good) .0 in
@@ -326,10 +330,10 @@ module _ (ws : List ℕ) (nodes entries : ℕ → Node) (n : ℕ)
         let y = statement-child (nodes i .b) (both .1) in
         owns (its-sort Kind.Choice h ∙ rw q)
         (connect-sort Connective.Or (3 * i) (omega arith) (omega arith) (x .1) (y .1) (first-of l (h .is)))
-        (truth-sort (3 * i + 1) 0 (omega arith) (entry-of 1 (omega arith) l (h .is)))
+        (no-sort (3 * i + 1) (entry-of 1 (omega arith) l (h .is)))
         (connect-sort Connective.Or (3 * i + 2) (omega arith) (omega arith) (x .2) (y .2) (entry-of 2 (omega arith) l (h .is)))
 
-    known-owns : (k : Kind) → Knows k → Owns i
+    known-owns : (k : Kind) → Is k → Owns i
     unfolding times
     known-owns Kind.Constant h = expression Kind.Constant h refl
     known-owns Kind.Field h = expression Kind.Field h refl
