@@ -17,8 +17,9 @@ use Rattle.model.specs.Examples.{bothFalse}
 use Rattle.model.proofs.Compute.{compute}
 use Rattle.model.proofs.Accepted.{accepted-good}
 use Rattle.model.proofs.Joins.{document-joins}
-use Rattle.model.proofs.Theorem.{packet-within, taken-fails, found-wrong}
+use Rattle.model.proofs.Theorem.{form-sized, form-good, packet-within, taken-fails, found-wrong}
 use Rattle.model.proofs.Evaluation.{condition-truth}
+use Rattle.model.proofs.Accepts.{built, valued}
 
 -- the condition's truth is that the form doesn't go wrong
 truth-is : (p r valuation : List ℕ) → conditionTruth (passiveForm p r) valuation ≡ not (goesWrong (bitsIn (variableWidths p r) valuation) (passive p r .body))
@@ -43,6 +44,19 @@ module _ (p r : List ℕ) (accepted : Accepted p r) where
       let w = accepted-good p r accepted in
       let f = found-wrong p r w newWhereDiffers document-joins (x .0) (x .3) (x .1) (x .2) (x .4) in
       (f .0, f .1, truth-is p r (f .0) ∙ ap not (f .3))
+
+pub demand3 : Demand3
+unfolding passiveForm
+demand3 = record {
+  built = λ p r accepted small lent h. let w = accepted-good p r accepted in built p r (form-good p r w newWhereDiffers document-joins) (form-sized p r w newWhereDiffers document-joins) small lent h;
+  valued = λ p r valuation accepted small v lent h.
+      let w = accepted-good p r accepted in
+      valued p r valuation (form-good p r w newWhereDiffers document-joins) (form-sized p r w newWhereDiffers document-joins) small v lent h;
+  exact = λ p r accepted small. (fails p r accepted, falsified p r accepted);
+  taken = λ p r valuation accepted small v e.
+      let w = accepted-good p r accepted in
+      (packet-within p r w newWhereDiffers document-joins valuation v, taken-fails p r w newWhereDiffers document-joins valuation v (goes-wrong p r accepted valuation e));
+}
 
 -- examples 7 and 6
 pub not-constant : NotConstant

@@ -1,30 +1,43 @@
 -- Laws of the definitions, for the crates above. A file cites files above it.
 pub mod Compute
 pub mod Examples
+-- small laws
 pub mod Booleans
-pub mod GoodForms
 pub mod Lists
 pub mod Every
+pub mod GoodForms
+pub mod Within
+-- refusals are exact, and each call has one answer: demand 1
 pub mod Refusals
+pub mod Hits
+pub mod Exact
+pub mod Answers
+-- what Check accepts is well formed
 pub mod Sorts
 pub mod Decoded
 pub mod Accepted
+-- widths
 pub mod Renaming
 pub mod Fits
 pub mod Variables
 pub mod Joins
 pub mod Equations
-pub mod Runs
 pub mod Reading
+-- runs and passive forms, over the join rule
+pub mod Runs
 pub mod Soundness
 pub mod Valuations
 pub mod Completeness
 pub mod Choices
 pub mod Statements
 pub mod Chains
-pub mod Within
 pub mod Theorem
+-- the node list, and the evaluation of the condition
 pub mod NodeList
 pub mod Entries
 pub mod Evaluation
+pub mod Formed
+pub mod EntrySorts
+pub mod Accepts
+-- demand 3
 pub mod Demands
