@@ -1,8 +1,7 @@
 -- Condition builds the condition of a well-formed passive form, and Evaluate gives its truth. Assumes nothing.
-use Prim.Native.Nat.{ℕ, zero, suc, _+_, _*_, _^_, _%_, _<_, _≤_}
-use native.Mathlib.Nat.{not-suc-le-zero, le-of-suc-le-suc}
+use Prim.Native.Nat.{ℕ, suc, _+_, _*_, _^_, _%_, _<_, _≤_}
 use native.Mathlib.Omega.{arith}
-use mathlib.Core.Path.{_≡_, refl, ap}
+use mathlib.Core.Path.{_≡_, refl}
 use mathlib.Core.Bool.{Bool, true, false}
 use mathlib.Core.List.{List, [], _∷_, _++_}
 use lib.Dec.{eqb, leb}
@@ -21,6 +20,7 @@ use Rattle.model.specs.Calls.{condition, evaluate, conditionTruth}
 use Rattle.model.specs.Demands.{WellBefore, Clear, Small, formWords, conditionWords, variableWidths}
 use Rattle.model.specs.declared.Stage.{Stage}
 use Rattle.model.specs.declared.Sort.{Sort}
+use Rattle.model.proofs.Within.{within-length, within-at}
 use Rattle.model.proofs.GoodForms.{AllWidths, GoodPassive}
 use Rattle.model.proofs.Booleans.{both-true}
 use Rattle.model.proofs.NodeList.{length-words, nodeCount-words, gives-statement, emitted-spans}
@@ -52,19 +52,6 @@ module _ (number : ℕ) (stage : Stage) (ends : Sort → Bool) (form ws : List �
 widths-well : (ws : List ℕ) → AllWidths ws → WellBefore (widthRow ws) (length ws)
 widths-well ws all j h = rw (le-leb 1 (word ws j) (all j h .0), le-leb (word ws j) 32 (all j h .1))
 
--- a valuation within the widths
-within-length : (ws valuation : List ℕ) → Within ws valuation → length valuation ≡ length ws
-within-length [] [] h = refl
-within-length [] (n ∷ ns) h = absurd h
-within-length (w ∷ ws) [] h = absurd h
-within-length (w ∷ ws) (n ∷ ns) h = ap suc (within-length ws ns (h .1))
-
-within-fits : (ws valuation : List ℕ) → Within ws valuation → (j : ℕ) → j < length ws → word valuation j < 2 ^ word ws j
-within-fits [] valuation h j k = absurd (not-suc-le-zero k)
-within-fits (w ∷ ws) [] h j k = absurd h
-within-fits (w ∷ ws) (n ∷ ns) h zero k = h .0
-within-fits (w ∷ ws) (n ∷ ns) h (suc j) k = within-fits ws ns (h .1) j (le-of-suc-le-suc k)
-
 -- ---- what Condition builds, Evaluate accepts
 
 pub evaluate-clear : (form ws valuation : List ℕ) (lent lent′ : ℕ) → Clear (conditionRows form ws lent) → Within ws valuation
@@ -86,7 +73,7 @@ evaluate-clear form ws valuation lent lent′ c v h =
         (
           λ j _. eq-eqb (length valuation) (length ws) (within-length ws valuation v),
           (
-            λ j k. lt-ltb (word valuation j) (2 ^ word ws j) (within-fits ws valuation v j k),
+            λ j k. lt-ltb (word valuation j) (2 ^ word ws j) (within-at ws valuation v j),
             (
               λ j _. le-leb (2 * nodeCount (words es)) lent′ (omega arith),
               (

@@ -2,17 +2,15 @@
 use Prim.Native.Nat.{ℕ}
 use native.Mathlib.Omega.{arith}
 use mathlib.Core.Path.{_≡_, refl, sym, ap, _∙_}
-use mathlib.Core.Bool.{Bool, true, false, not}
-use mathlib.Core.Logic.{_↔_}
+use mathlib.Core.Bool.{true, not}
 use mathlib.Core.List.{List, [], _∷_}
 use borrow.Author.Tests.{not-false}
 use Rattle.model.specs.Trees.{bitsIn}
-use Rattle.model.specs.Good.{Within}
 use Rattle.model.specs.Passive.{passive, newWhereDiffers}
 use Rattle.model.specs.Emit.{passiveForm}
 use Rattle.model.specs.Walk.{goesWrong}
 use Rattle.model.specs.Calls.{conditionTruth}
-use Rattle.model.specs.Demands.{Accepted, Small, Falsifiable, CanFail, FalseUnder, Demand3, NotConstant, variableWidths}
+use Rattle.model.specs.Demands.{Accepted, Falsifiable, CanFail, FalseUnder, Demand3, NotConstant, variableWidths}
 use Rattle.model.specs.Examples.{bothFalse}
 use Rattle.model.proofs.Compute.{compute}
 use Rattle.model.proofs.Accepted.{accepted-good}

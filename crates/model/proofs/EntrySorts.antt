@@ -5,7 +5,7 @@ use native.Mathlib.Omega.{arith}
 use mathlib.Core.Path.{_≡_, refl, sym, ap, _∙_}
 use mathlib.Core.Logic.{_⊎_, inl, inr, ⊎-elim}
 use mathlib.Core.Bool.{Bool, true, false, _&&_, false≢true}
-use mathlib.Core.List.{List, [], _∷_}
+use mathlib.Core.List.{List}
 use lib.Dec.{eqb, ltb, leb}
 use lib.ListN.{getD, length}
 use borrow.Author.Tests.{eqb-true, lt-ltb, le-leb, ltb-true, ltb-false}
@@ -18,25 +18,15 @@ use Rattle.model.specs.declared.Connective.{Connective}
 use Rattle.model.specs.declared.Kind.{Kind}
 use Rattle.model.specs.declared.Stage.{Stage}
 use Rattle.model.specs.declared.Sort.{Sort}
+use Rattle.model.proofs.KindNumbers.{kind-or-unknown, entry-below, binary-allowed, compare-allowed, connect-allowed}
 use Rattle.model.proofs.Lists.{made, length-each, each-at}
 use Rattle.model.proofs.Booleans.{both-true}
 use Rattle.model.proofs.Every.{build-past, from-below}
-use Rattle.model.proofs.NodeList.{nodeCount-words, plainNode-words, entry-below, binary-allowed, compare-allowed, connect-allowed}
+use Rattle.model.proofs.NodeList.{nodeCount-words, plainNode-words}
 use Rattle.model.proofs.Entries.{overEntries, expression-entry, length-condition, entryAt, owned-entry, last-entry}
 use Rattle.model.proofs.Formed.{step, sort, sort-before, node-sort}
 
 -- ---- what a formed node is
-
--- a number that has a kind is that kind's
-kind-or-unknown : (ks : List Kind) (m : ℕ) → (kindIn ks m ≡ Kind.Unknown) ⊎ (m ≡ numberOf (kindIn ks m))
-unfolding kindIn
-kind-or-unknown [] m = inl refl
-kind-or-unknown (k ∷ ks) m = go (eqb m (numberOf k)) refl (kind-or-unknown ks m)
-  where
-    go : (b : Bool) → eqb m (numberOf k) ≡ b → (kindIn ks m ≡ Kind.Unknown) ⊎ (m ≡ numberOf (kindIn ks m))
-        → (_≡_ {A = Kind} (if b then k else kindIn ks m) Kind.Unknown) ⊎ (m ≡ numberOf (if b then k else kindIn ks m))
-    go true e rest = inr (eqb-true m (numberOf k) e)
-    go false e rest = rest
 
 only-formed : (b : Bool) (s : Sort) → isFormed (only b s) ≡ true → (b ≡ true) × (isFormed s ≡ true)
 only-formed true s h = (refl, h)

@@ -1,19 +1,18 @@
 -- Where Lookup's three words stand in their block. Assumes nothing.
 use Prim.Native.Nat.{ℕ, _<_}
 use native.Mathlib.Omega.{arith}
-use mathlib.Core.Path.{_≡_, refl}
-use mathlib.Core.Bool.{Bool, true, false, and-false}
+use mathlib.Core.Path.{_≡_}
+use mathlib.Core.Bool.{Bool, true, false}
 use mathlib.Core.List.{List, [], _∷_}
 use lib.ListN.{length}
-use lib.Dec.{eqb}
 use lib.Seq.{drop-cons}
-use borrow.Author.Tests.{eqb-true}
-use Rattle.model.specs.Lists.{if_then_else_, each, those, part}
-use Rattle.model.specs.Blocks.{T, R, pipelineLength, tableOf, callPlace, defaultPlace}
-use Rattle.model.specs.Tables.{triedBefore, tried, firstThat}
+use Rattle.model.specs.Lists.{if_then_else_, part}
+use Rattle.model.specs.Blocks.{T, R, callPlace, defaultPlace}
+use Rattle.model.specs.Tables.{tried, firstThat}
 use Rattle.model.specs.Refusals.{countsWell}
 use Rattle.model.specs.declared.Hit.{Hit}
-use Rattle.model.proofs.Every.{All, all-each, all-those, all-ordered}
+use Rattle.model.proofs.Every.{All}
+use Rattle.model.proofs.Accepted.{counts, OfTable, tried-below}
 
 -- what is found in a list has the property
 first-has : (P : ℕ → Type 0) (test : ℕ → Bool) (xs : List ℕ) (i : ℕ) → All P xs → firstThat test xs ≡ Hit.Rule i → P i
@@ -27,26 +26,13 @@ first-has P test (x ∷ xs) i h e = go (test x) e (first-has P test xs i (h .1))
 
 -- a rule that hits is one of the block's
 pub hit-below : (test : ℕ → Bool) (r : List ℕ) (t i : ℕ) → firstThat test (tried r t) ≡ Hit.Rule i → i < R r
-unfolding tried
-hit-below test r t i e =
-    let below : ℕ → Type 0 = λ j. j < R r in
-    let ofTable : ℕ → Bool = λ j. eqb (tableOf r j) t in
-    let own = all-those below ofTable (each (λ j. j) (R r)) (all-each below (λ j. j) (R r) (λ j h. h)) in
-    let P : ℕ → Type 0 = λ j. (j < R r) × (ofTable j ≡ true) in
-    first-has P test (tried r t) i (all-ordered P (triedBefore r) (those ofTable (each (λ j. j) (R r))) own) e .0
+hit-below test r t i e = first-has (OfTable r t) test (tried r t) i (tried-below r t) e .0
 
 pub rule-there : (r : List ℕ) (i : ℕ) → i < R r → callPlace r i < length r
 rule-there r i h = omega arith
 
 pub default-there : (p r : List ℕ) (t : ℕ) → countsWell p r ≡ true → t < T p → defaultPlace p t < length p
-unfolding countsWell
-default-there p r t h k = go (eqb (length p) (pipelineLength p)) refl
-  where
-    go : (b : Bool) → eqb (length p) (pipelineLength p) ≡ b → defaultPlace p t < length p
-    go true e = omega (arith, eqb-true (length p) (pipelineLength p) e)
-    go false e =
-        let z : _≡_ {A = Bool} false true = simp (e, and-false) at h in
-        absurd (let w : _≡_ {A = ℕ} 0 1 = cc in omega arith)
+default-there p r t h k = omega (arith, counts p r h .pipelineWords)
 
 -- three words that begin inside are there
 pub part-there : (ws : List ℕ) (at : ℕ) → at < length ws → part ws at 3 ≡ [] → ⊥

@@ -5,17 +5,18 @@ pub mod Examples
 pub mod Booleans
 pub mod Lists
 pub mod Every
+pub mod KindNumbers
 pub mod GoodForms
 pub mod Within
--- refusals are exact, and each call has one answer: demand 1
-pub mod Refusals
-pub mod Hits
-pub mod Exact
-pub mod Answers
 -- what Check accepts is well formed
+pub mod Refusals
 pub mod Sorts
 pub mod Decoded
 pub mod Accepted
+-- refusals are exact, and each call has one answer: demand 1
+pub mod Hits
+pub mod Exact
+pub mod Answers
 -- widths
 pub mod Renaming
 pub mod Fits

@@ -1,25 +1,20 @@
--- Nodes as words, the kinds by their numbers, and where the nodes of an emitted piece stand. Assumes nothing.
+-- Nodes as words, and where the nodes of an emitted piece stand. Assumes nothing.
 use Prim.Native.Nat.{ℕ, zero, suc, _+_, _*_, _<_, _≤_}
 use native.Mathlib.Nat.{not-suc-le-zero, le-of-suc-le-suc, zero-add, add-zero, add-assoc, mul-div-cancel-left}
 use native.Mathlib.Omega.{arith}
-use mathlib.Core.Bool.{Bool, true, false, not, _&&_}
 use mathlib.Core.Path.{_≡_, refl, sym, ap, subst, subst₂, _∙_}
 use mathlib.Core.List.{List, [], _∷_, _++_}
-use lib.Dec.{ltb}
 use lib.ListN.{getD, length, length-append, List·getD-append}
 use lib.Seq.{getD-append-add}
-use Rattle.bits.specs.declared.Op.{Op}
-use Rattle.model.specs.Lists.{if_then_else_, times, word}
+use Rattle.model.specs.Lists.{if_then_else_, word}
 use Rattle.model.specs.Blocks.{Node, node, words, plainNode}
-use Rattle.model.specs.Nodes.{numberOf, kinds, kindIn, kindOf, pipelineOnly, allowed}
+use Rattle.model.specs.Nodes.{numberOf}
 use Rattle.model.specs.Trees.{Val, Test}
 use Rattle.model.specs.Passive.{Passive, Equation, _then_}
 use Rattle.model.specs.Emit.{Piece, past, top, leaf, one, two, three, emitValue, emitTest, emitEquations, emit}
 use Rattle.model.specs.Condition.{nodeCount}
 use Rattle.model.specs.declared.Comparison.{Comparison}
-use Rattle.model.specs.declared.Connective.{Connective}
 use Rattle.model.specs.declared.Kind.{Kind}
-use Rattle.model.specs.declared.Stage.{Stage}
 
 -- ---- words
 
@@ -46,75 +41,6 @@ plainNode-words (n ∷ ns) (suc i) d h =
       behind-first n ns (4 * i + 2) (4 * suc i + 2) (omega arith),
       behind-first n ns (4 * i + 3) (4 * suc i + 3) (omega arith),
     ) (plainNode-words ns i d (le-of-suc-le-suc h))
-
--- ---- kinds
-
--- a kind's number is no other's
-pub kindIn-number : (k : Kind) → kindIn kinds (numberOf k) ≡ k
-unfolding kindIn
-kindIn-number Kind.Constant = refl
-kindIn-number Kind.Field = refl
-kindIn-number Kind.Parameter = refl
-kindIn-number (Kind.Binary Op.Sum) = refl
-kindIn-number (Kind.Binary Op.Difference) = refl
-kindIn-number (Kind.Binary Op.And) = refl
-kindIn-number (Kind.Binary Op.Or) = refl
-kindIn-number (Kind.Binary Op.Xor) = refl
-kindIn-number Kind.Complement = refl
-kindIn-number Kind.Slice = refl
-kindIn-number Kind.Join = refl
-kindIn-number Kind.Select = refl
-kindIn-number Kind.Truth = refl
-kindIn-number (Kind.Compare Comparison.Equal) = refl
-kindIn-number (Kind.Compare Comparison.Less) = refl
-kindIn-number Kind.Not = refl
-kindIn-number (Kind.Connect Connective.And) = refl
-kindIn-number (Kind.Connect Connective.Or) = refl
-kindIn-number Kind.Skip = refl
-kindIn-number Kind.Assign = refl
-kindIn-number Kind.Havoc = refl
-kindIn-number Kind.Assume = refl
-kindIn-number Kind.Assert = refl
-kindIn-number Kind.Sequence = refl
-kindIn-number Kind.Choice = refl
-kindIn-number Kind.Apply = refl
-kindIn-number Kind.Unknown = refl
-
-pub kindOf-number : (stage : Stage) (k : Kind) → allowed stage (numberOf k) ≡ true → kindOf stage (numberOf k) ≡ k
-kindOf-number stage k h = rw h (kindIn-number k)
-
--- which numbers a condition may hold: those of values and tests, which a passive form may hold too
-pub entry-below : (m : ℕ) → allowed Stage.Condition m ≡ true → ltb m 32 ≡ true
-entry-below m h = go (pipelineOnly m) h
-  where
-    go : (b : Bool) → not b && ltb m 32 ≡ true → ltb m 32 ≡ true
-    go true e = cc
-    go false e = e
-
-pub entry-allowed : (m : ℕ) → allowed Stage.Condition m ≡ true → allowed Stage.Passive m ≡ true
-entry-allowed m h = go (pipelineOnly m) h
-  where
-    go : (b : Bool) → not b && ltb m 32 ≡ true → not b ≡ true
-    go true e = e
-    go false e = refl
-
-pub binary-allowed : (o : Op) → allowed Stage.Condition (numberOf (Kind.Binary o)) ≡ true
-unfolding times
-binary-allowed Op.Sum = refl
-binary-allowed Op.Difference = refl
-binary-allowed Op.And = refl
-binary-allowed Op.Or = refl
-binary-allowed Op.Xor = refl
-
-pub compare-allowed : (o : Comparison) → allowed Stage.Condition (numberOf (Kind.Compare o)) ≡ true
-unfolding times
-compare-allowed Comparison.Equal = refl
-compare-allowed Comparison.Less = refl
-
-pub connect-allowed : (o : Connective) → allowed Stage.Condition (numberOf (Kind.Connect o)) ≡ true
-unfolding times
-connect-allowed Connective.And = refl
-connect-allowed Connective.Or = refl
 
 -- ---- where a list of nodes stands
 

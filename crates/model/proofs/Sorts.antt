@@ -1,16 +1,15 @@
 -- A node's sort and its tree, from those of its children: where there is a sort, the tree is well formed and of that sort.
 -- Assumes nothing.
-use Prim.Native.Nat.{ℕ, _+_, _-_, _^_, _<_, _≤_}
+use Prim.Native.Nat.{ℕ, _+_, _-_, _^_, _<_}
 use native.Mathlib.Omega.{arith}
-use mathlib.Core.Path.{_≡_, refl, sym, ap, _∙_}
+use mathlib.Core.Path.{_≡_, refl, sym, _∙_}
 use mathlib.Core.Bool.{Bool, true, false, _&&_, false≢true}
-use mathlib.Core.List.{List, [], _∷_, _++_}
+use mathlib.Core.List.{List, _++_}
 use lib.Dec.{eqb, ltb, leb}
 use lib.ListN.{getD, length}
 use borrow.Author.Tests.{eqb-true, ltb-true, leb-true, lt-ltb}
 use Rattle.bits.specs.Width.{fits}
-use Rattle.model.specs.Lists.{if_then_else_}
-use Rattle.model.specs.Nodes.{numberOf, kindIn, roles, childIn, widthOf, isTest, isStatement, isWidth, isValue, alike, only, sortBy}
+use Rattle.model.specs.Nodes.{roles, childIn, widthOf, isTest, isStatement, isWidth, isValue, alike, only, sortBy}
 use Rattle.model.specs.Trees.{Val, Tree, asValue, asTest, asStatement, treeBy}
 use Rattle.model.specs.Good.{Width, widthOfValue, GoodValue, GoodTest, Good}
 use Rattle.model.specs.declared.Kind.{Kind}
@@ -21,16 +20,6 @@ use Rattle.model.proofs.GoodForms.{AllWidths}
 
 pub width-true : (w : ℕ) → isWidth w ≡ true → Width w
 width-true w e = let h = both-true (leb 1 w) (leb w 32) e in (leb-true 1 w (h .0), leb-true w 32 (h .1))
-
--- a number that has a kind is that kind's number
-pub kind-number : (ks : List Kind) (n : ℕ) (k : Kind) → 1 ≤ numberOf k → kindIn ks n ≡ k → n ≡ numberOf k
-unfolding kindIn
-kind-number [] n k h e = absurd (omega (arith, ap numberOf e))
-kind-number (x ∷ ks) n k h e = go (eqb n (numberOf x)) refl e (kind-number ks n k h)
-  where
-    go : (b : Bool) → eqb n (numberOf x) ≡ b → (if b then x else kindIn ks n) ≡ k → (kindIn ks n ≡ k → n ≡ numberOf k) → n ≡ numberOf k
-    go true q i rec = eqb-true n (numberOf x) q ∙ ap numberOf i
-    go false q i rec = rec i
 
 module _ (ws : List ℕ) (tables : ℕ) where
   pub record Valued (w : ℕ) (t : Tree) : Type 0 where
