@@ -30,6 +30,7 @@ pub mod Soundness
 pub mod Valuations
 pub mod Completeness
 pub mod Choices
+pub mod Sizes
 pub mod Statements
 pub mod Chains
 pub mod Theorem

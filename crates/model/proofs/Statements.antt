@@ -1,15 +1,19 @@
--- A form is exact for a run: its variables are in order, its statement is well formed, it is sound and complete. One law for each way in
+-- A form is exact for a run: its variables are in order and no more than its nodes, its statement is well formed, it is sound and complete. One law for each way in
 -- which runs are put together, and one induction over statements. Assumes nothing.
-use Prim.Native.Nat.{ℕ, _<_}
-use native.Mathlib.Nat.{lt-of-lt-of-le}
+use Prim.Native.Nat.{ℕ, _+_, _≤_, _<_}
+use native.Mathlib.Nat.{le-refl, lt-of-lt-of-le}
+use native.Mathlib.Omega.{arith}
 use mathlib.Core.Path.{_≡_, sym, _∙_}
 use mathlib.Core.Bool.{Bool}
-use mathlib.Core.List.{List}
-use lib.ListN.{getD, length}
+use mathlib.Core.List.{List, [], _∷_}
+use lib.ListN.{getD, length, length-append}
 use Rattle.model.specs.Trees.{Val, Test, Stmt, truthOf, bitsIn}
 use Rattle.model.specs.Good.{widthOfValue, GoodValue, GoodTest, Good}
 use Rattle.model.specs.Runs.{State, Outcome, run}
-use Rattle.model.specs.Passive.{Passive, Origin, Vars, next, beside, Form, form, JoinRule, equations, join, passify, renamedTest, _then_}
+use Rattle.model.specs.declared.Comparison.{Comparison}
+use Rattle.model.specs.Emit.{past, emit}
+use Rattle.model.specs.Passive.{Passive, Origin, Vars, next, beside, Form, form, JoinRule, newWidths, equations, join, passify, renamed, renamedTest, _then_}
+use Rattle.model.proofs.Sizes.{sizeAt, size-assume, size-then, size-choice, behind-assume, new-equations}
 use Rattle.model.proofs.GoodForms.{AllWidths, GoodEquations, GoodPassive}
 use Rattle.model.proofs.Variables.{var, Front, front-trans, front-append, Ready, Steps, steps-refl, steps-trans, ready-fresh, steps-fresh, fresh-there, fresh-width}
 use Rattle.model.proofs.Joins.{JoinLaws, ready-joined, steps-joined}
@@ -25,6 +29,7 @@ module _ (ws : List ℕ) (sizes : AllWidths ws) where
   pub record Exact (go : Run) (make : Vars → Form) : Type 0 where
     pub ready : (e : Vars) → Ready ws e → Ready ws (make e .after)
     pub steps : (e : Vars) → Ready ws e → Steps ws e (make e .after)
+    pub counted : (e : Vars) → Ready ws e → (at : ℕ) → next (make e .after) ≤ next e + sizeAt (make e .body) at
     pub good : (widths : List ℕ) (e : Vars) → Ready ws e → Front (make e .after .widths) widths → GoodPassive widths (make e .body)
     pub sound : (widths : List ℕ) (v : ℕ → ℕ) → Fits widths v → (e : Vars) → Ready ws e → Front (make e .after .widths) widths
         → Sound ws widths v go e (make e)
@@ -36,6 +41,10 @@ module _ (ws : List ℕ) (sizes : AllWidths ws) where
     exact-both = record {
       ready = λ e k. y .ready _ (x .ready e k);
       steps = λ e k. steps-trans ws (x .steps e k) (y .steps _ (x .ready e k));
+      counted = λ e k at.
+          let p = f e .body in
+          let q = g (f e .after) .body in
+          omega (arith, size-then p q at, x .counted e k at, y .counted _ (x .ready e k) (past at (emit p at)));
       good = λ widths e k front.
           let kl = x .ready e k in
           (x .good widths e k (front-trans (y .steps _ kl .front) front), y .good widths _ kl front);
@@ -118,8 +127,31 @@ module _ (ws : List ℕ) (sizes : AllWidths ws) where
           unfolding join GoodPassive
           good-make g h = (g, equations-good (f e .after) (kl e k) front-left, h, equations-good (second e .after) (kr e k) front-right)
 
+        counted-make : (at m n : ℕ) → sizeAt (f e .body) m ≤ sizeAt (first e) at → sizeAt (second e .body) n ≤ sizeAt (rest e) (past at (emit (first e) at))
+            → next (make e .after) ≤ next e + sizeAt (make e .body) at
+        unfolding join
+        counted-make at m n h i =
+            let zs = make e .after .current in
+            let new = newWidths (next (second e .after)) ws zs in
+            let xs = equations (f e .after .current) zs in
+            let ys = equations (second e .after .current) zs in
+            let older : (j : ℕ) → j < length (f e .after .current) → var (f e .after) j < next (second e .after) =
+            λ j b. lt-of-lt-of-le (kl e k .low j (rw (kl e k .size) at b)) (right e k .front .shorter) in
+            omega (
+              arith,
+              length-append (second e .after .widths) new,
+              new-equations (next (second e .after)) ws (f e .after .current) zs (lengths .0) older,
+              size-choice o (first e) xs (rest e) ys at,
+              h,
+              i,
+              x .counted e k m,
+              y .counted _ (ready-beside e k) n,
+            )
+
       -- what is left to show of either kind of choice, from what holds of its sides
       record Sides (go : Run) : Type 0 where
+        holdsFirst : (e : Vars) (at : ℕ) → (n : ℕ) × (sizeAt (f e .body) n ≤ sizeAt (first e) at)
+        holdsRest : (e : Vars) (at : ℕ) → (n : ℕ) × (sizeAt (second e .body) n ≤ sizeAt (rest e) at)
         good : (widths : List ℕ) (e : Vars) → Ready ws e → Front (e .widths) widths
             → GoodPassive widths (f e .body) → GoodPassive widths (second e .body) → GoodPassive widths (first e) × GoodPassive widths (rest e)
         sound : (widths : List ℕ) (v : ℕ → ℕ) (e : Vars) → Ready ws e → Front (e .widths) widths
@@ -133,6 +165,10 @@ module _ (ws : List ℕ) (sizes : AllWidths ws) where
       exact-sides go s = record {
         ready = ready-make;
         steps = steps-make;
+        counted = λ e k at.
+            let l = s .holdsFirst e at in
+            let r = s .holdsRest e (past at (emit (first e) at)) in
+            counted-make e k at (l .0) (r .0) (l .1) (r .1);
         good = λ widths e k front.
             let g = s .good widths e k (front-before e k widths front)
             (x .good widths e k (front-left e k widths front)) (y .good widths _ (ready-beside e k) (front-right e k widths front)) in
@@ -150,6 +186,8 @@ module _ (ws : List ℕ) (sizes : AllWidths ws) where
     exact-choice =
         exact-sides Origin.ofPipeline (λ e. f e .body) (λ e. second e .body) (eitherOf a b)
         (record {
+          holdsFirst = λ e at. (at, le-refl _);
+          holdsRest = λ e at. (at, le-refl _);
           good = λ widths e k front g h. (g, h);
           sound = λ widths v e k front l r n. sound-choice ws widths v a b rule e (f e) (second e) l r n;
           complete = λ widths e k before front l r.
@@ -172,6 +210,8 @@ module _ (ws : List ℕ) (sizes : AllWidths ws) where
       exact-chain =
           exact-sides Origin.ofChain matched missed (whether test a b)
           (record {
+            holdsFirst = λ e at. (_, behind-assume (m e) (f e .body) at);
+            holdsRest = λ e at. (_, behind-assume (Test.notTest (m e)) (second e .body) at);
             good = λ widths e k front g h. let gm = reads-good-test ws widths e k front t gt in ((gm, g), (gm, h));
             sound = λ widths v e k front l r n.
                 sound-chain ws widths v a b rule e (f e) (second e) l r test (m e) (reads-truth ws widths e k front v t gt ∙ sym (same _)) n;
@@ -185,6 +225,7 @@ module _ (ws : List ℕ) (sizes : AllWidths ws) where
   exact-same a b f same x = record {
     ready = x .ready;
     steps = x .steps;
+    counted = x .counted;
     good = x .good;
     sound = λ widths v fits e k front.
         let y = x .sound widths v fits e k front in
@@ -203,6 +244,7 @@ module _ (ws : List ℕ) (sizes : AllWidths ws) where
     exact-skip = record {
       ready = λ e k. k;
       steps = λ e k. steps-refl ws e;
+      counted = λ e k at. omega arith;
       good = λ widths e k front. tt;
       sound = λ widths v fits e k front. sound-skip ws widths v onApply rule formApply e;
       complete = λ widths e k front. complete-skip ws widths onApply rule formApply e k front;
@@ -213,6 +255,7 @@ module _ (ws : List ℕ) (sizes : AllWidths ws) where
     exact-assume n t g = record {
       ready = λ e k. k;
       steps = λ e k. steps-refl ws e;
+      counted = λ e k at. omega arith;
       good = λ widths e k front. reads-good-test ws widths e k front t g;
       sound = λ widths v fits e k front. sound-assume ws widths v onApply rule formApply e k front n t g;
       complete = λ widths e k front. complete-assume ws widths onApply rule formApply e k front n t g;
@@ -223,16 +266,18 @@ module _ (ws : List ℕ) (sizes : AllWidths ws) where
     exact-assert n t g = record {
       ready = λ e k. k;
       steps = λ e k. steps-refl ws e;
+      counted = λ e k at. omega arith;
       good = λ widths e k front. reads-good-test ws widths e k front t g;
       sound = λ widths v fits e k front. sound-assert ws widths v onApply rule formApply e k front n t g;
       complete = λ widths e k front. complete-assert ws widths onApply rule formApply e k front n t g;
     }
 
     exact-havoc : (i : ℕ) → i < length ws → Stated (Stmt.havoc i)
-    unfolding run passify GoodPassive
+    unfolding run passify GoodPassive emit
     exact-havoc i h = record {
       ready = λ e k. ready-fresh ws e i sizes h k;
       steps = λ e k. steps-fresh ws e i sizes h k;
+      counted = λ e k at. omega (arith, length-append (e .widths) (getD ws i 0 ∷ []));
       good = λ widths e k front. tt;
       sound = λ widths v fits e k front.
           sound-havoc ws widths v onApply rule formApply e i (rw (fresh-width e i (getD ws i 0) widths front) at (fits (next e)));
@@ -244,6 +289,7 @@ module _ (ws : List ℕ) (sizes : AllWidths ws) where
     exact-assign i x h g w = record {
       ready = λ e k. ready-fresh ws e i sizes h k;
       steps = λ e k. steps-fresh ws e i sizes h k;
+      counted = λ e k at. omega (arith, length-append (e .widths) (getD ws i 0 ∷ []), size-assume (Test.compare Comparison.Equal (renamed (e .current) x) (Val.field (next e))) at);
       good = λ widths e k front.
           let fb = front-trans (front-append (e .widths) _) front in (
             reads-good ws widths e k fb x g,

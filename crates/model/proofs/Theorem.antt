@@ -1,6 +1,6 @@
 -- The theorem over the words of the two blocks, for any join rule that has the laws: some valuation has the form go wrong exactly when some
 -- packet and choice list make the run fail, and the packet and choices that are taken out of it do. Assumes nothing.
-use Prim.Native.Nat.{ℕ, _^_, _≤_, _<_}
+use Prim.Native.Nat.{ℕ, _+_, _^_, _≤_, _<_}
 use native.Mathlib.Nat.{zero-add, le-refl, lt-of-lt-of-le}
 use native.Mathlib.Omega.{arith}
 use mathlib.Core.Path.{_≡_, refl, sym, ap, _∙_, subst}
@@ -17,6 +17,7 @@ use Rattle.model.specs.Trees.{bitsIn}
 use Rattle.model.specs.Good.{Within}
 use Rattle.model.specs.Runs.{state, pipelineRun}
 use Rattle.model.specs.Passive.{Vars, vars, Form, JoinRule, passiveBy}
+use Rattle.model.specs.Emit.{emit}
 use Rattle.model.specs.Walk.{goesWrong, walkWrong}
 use Rattle.model.specs.Demands.{FailsWith}
 use Rattle.model.proofs.GoodForms.{AllWidths, GoodPassive}
@@ -75,6 +76,11 @@ module _ (p r : List ℕ) (w : WellFormed p r) (rule : JoinRule) (laws : JoinLaw
   pub form-good : GoodPassive all (made .body)
   unfolding passiveBy
   form-good = exact-program p r w rule laws .good all start start-ready (front-refl all)
+
+  -- V is at most F + n
+  pub variables-counted : length all ≤ F p + length (emit (made .body) 0)
+  unfolding passiveBy
+  variables-counted = omega (arith, exact-program p r w rule laws .counted start start-ready 0, w .widthsLength)
 
   abbrev packetIn : List ℕ → List ℕ
   packetIn valuation = take (length (widths p)) valuation
