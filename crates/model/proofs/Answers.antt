@@ -30,7 +30,7 @@ use Rattle.model.specs.declared.Passified.{Passified}
 use Rattle.model.specs.declared.Built.{Built}
 use Rattle.model.specs.declared.Evaluated.{Evaluated}
 use Rattle.model.specs.declared.Extracted.{Extracted}
-use Rattle.model.proofs.Exact.{exact-calls}
+use Rattle.model.proofs.CallRefusals.{exact-calls}
 
 -- the refusal with a number and a place
 abbrev pub refusalAt : ℕ → ℕ → Refusal

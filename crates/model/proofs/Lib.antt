@@ -15,7 +15,7 @@ pub mod Decoded
 pub mod Accepted
 -- refusals are exact, and each call has one answer: demand 1
 pub mod Hits
-pub mod Exact
+pub mod CallRefusals
 pub mod Answers
 -- widths
 pub mod Renaming
@@ -32,7 +32,7 @@ pub mod Completeness
 pub mod Choices
 pub mod Sizes
 pub mod Statements
-pub mod Chains
+pub mod Tables
 pub mod Theorem
 -- the node list, and the evaluation of the condition
 pub mod NodeList

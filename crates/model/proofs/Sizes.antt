@@ -4,15 +4,14 @@ use native.Mathlib.Nat.{zero-lt-suc, le-refl, suc-inj}
 use native.Mathlib.Omega.{arith}
 use mathlib.Core.Path.{_≡_, refl}
 use mathlib.Core.Bool.{Bool, true, false}
-use mathlib.Core.List.{List, [], _∷_, _++_}
+use mathlib.Core.List.{List, [], _∷_}
 use lib.Dec.{eqb}
 use lib.ListN.{getD, length, length-append}
 use borrow.Author.Tests.{eqb-true}
 use Rattle.model.specs.Lists.{if_then_else_}
-use Rattle.model.specs.Blocks.{Node}
 use Rattle.model.specs.Trees.{Test}
 use Rattle.model.specs.Passive.{Passive, Origin, Equation, newWidths, equations, _then_}
-use Rattle.model.specs.Emit.{past, top, emitTest, emitEquations, emit}
+use Rattle.model.specs.Emit.{past, top, emitEquations, emit}
 
 -- how many nodes a statement is written as, from a place on
 abbrev pub sizeAt : Passive → ℕ → ℕ

@@ -26,7 +26,7 @@ use Rattle.model.proofs.Completeness.{Complete, complete-both, complete
 use Rattle.model.proofs.Choices.{complete-choice, complete-chain}
 
 module _ (ws : List ℕ) (sizes : AllWidths ws) where
-  pub record Exact (go : Run) (make : Vars → Form) : Type 0 where
+  pub record ExactForm (go : Run) (make : Vars → Form) : Type 0 where
     pub ready : (e : Vars) → Ready ws e → Ready ws (make e .after)
     pub steps : (e : Vars) → Ready ws e → Steps ws e (make e .after)
     pub counted : (e : Vars) → Ready ws e → (at : ℕ) → next (make e .after) ≤ next e + sizeAt (make e .body) at
@@ -35,8 +35,8 @@ module _ (ws : List ℕ) (sizes : AllWidths ws) where
         → Sound ws widths v go e (make e)
     pub complete : (widths : List ℕ) (e : Vars) → Ready ws e → Front (make e .after .widths) widths → Complete ws widths go e (make e)
 
-  module _ (a b : Run) (f g : Vars → Form) (x : Exact a f) (y : Exact b g) where
-    pub exact-both : Exact (inOrder a b) (λ e. let l = f e in let r = g (l .after) in form (l .body then r .body) (r .after))
+  module _ (a b : Run) (f g : Vars → Form) (x : ExactForm a f) (y : ExactForm b g) where
+    pub exact-both : ExactForm (inOrder a b) (λ e. let l = f e in let r = g (l .after) in form (l .body then r .body) (r .after))
     unfolding GoodPassive
     exact-both = record {
       ready = λ e k. y .ready _ (x .ready e k);
@@ -58,7 +58,7 @@ module _ (ws : List ℕ) (sizes : AllWidths ws) where
     }
 
   -- what a choice and a rule of a chain have in common: two sides from the same variables, joined
-  module _ (rule : JoinRule) (laws : JoinLaws rule) (a b : Run) (f g : Vars → Form) (x : Exact a f) (y : Exact b g) where
+  module _ (rule : JoinRule) (laws : JoinLaws rule) (a b : Run) (f g : Vars → Form) (x : ExactForm a f) (y : ExactForm b g) where
     abbrev second : Vars → Form
     second e = g (beside e (f e .after))
 
@@ -161,7 +161,7 @@ module _ (ws : List ℕ) (sizes : AllWidths ws) where
         complete : (widths : List ℕ) (e : Vars) → Ready ws e → Front (e .widths) widths → Front (make e .after .widths) widths
             → Complete ws widths a e (f e) → Complete ws widths b (beside e (f e .after)) (second e) → Complete ws widths go e (make e)
 
-      exact-sides : (go : Run) → Sides go → Exact go make
+      exact-sides : (go : Run) → Sides go → ExactForm go make
       exact-sides go s = record {
         ready = ready-make;
         steps = steps-make;
@@ -181,7 +181,7 @@ module _ (ws : List ℕ) (sizes : AllWidths ws) where
             (x .complete widths e k (front-left e k widths front)) (y .complete widths _ (ready-beside e k) (front-right e k widths front));
       }
 
-    pub exact-choice : Exact (eitherOf a b) (λ e. join ws rule Origin.ofPipeline e (f e .body) (f e .after) (second e .body) (second e .after))
+    pub exact-choice : ExactForm (eitherOf a b) (λ e. join ws rule Origin.ofPipeline e (f e .body) (f e .after) (second e .body) (second e .after))
     unfolding join
     exact-choice =
         exact-sides Origin.ofPipeline (λ e. f e .body) (λ e. second e .body) (eitherOf a b)
@@ -205,7 +205,7 @@ module _ (ws : List ℕ) (sizes : AllWidths ws) where
       abbrev missed : Vars → Passive
       missed e = Passive.assume (Test.notTest (m e)) then second e .body
 
-      pub exact-chain : Exact (whether test a b) (λ e. join ws rule Origin.ofChain e (matched e) (f e .after) (missed e) (second e .after))
+      pub exact-chain : ExactForm (whether test a b) (λ e. join ws rule Origin.ofChain e (matched e) (f e .after) (missed e) (second e .after))
       unfolding join GoodPassive GoodTest
       exact-chain =
           exact-sides Origin.ofChain matched missed (whether test a b)
@@ -221,7 +221,7 @@ module _ (ws : List ℕ) (sizes : AllWidths ws) where
           })
 
   -- the same run, told otherwise
-  pub exact-same : (a b : Run) (f : Vars → Form) → ((s : State) → b s ≡ a s) → Exact a f → Exact b f
+  pub exact-same : (a b : Run) (f : Vars → Form) → ((s : State) → b s ≡ a s) → ExactForm a f → ExactForm b f
   exact-same a b f same x = record {
     ready = x .ready;
     steps = x .steps;
@@ -235,9 +235,9 @@ module _ (ws : List ℕ) (sizes : AllWidths ws) where
 
   -- statements, where tables are exact
   module _ (rule : JoinRule) (laws : JoinLaws rule) (onApply : ℕ → State → Outcome) (formApply : ℕ → Vars → Form) (tables : ℕ)
-      (applies : (t : ℕ) → t < tables → Exact (onApply t) (formApply t)) where
+      (applies : (t : ℕ) → t < tables → ExactForm (onApply t) (formApply t)) where
     abbrev Stated : Stmt → Type 0
-    Stated s = Exact (run ws onApply s) (passify ws rule formApply s)
+    Stated s = ExactForm (run ws onApply s) (passify ws rule formApply s)
 
     exact-skip : Stated Stmt.skip
     unfolding run passify GoodPassive

@@ -28,7 +28,7 @@ use Rattle.model.proofs.Variables.{var, Front, front-refl, Ready}
 use Rattle.model.proofs.Joins.{JoinLaws}
 use Rattle.model.proofs.Valuations.{Fits}
 use Rattle.model.proofs.Completeness.{Extends, Wrong, aim, Meets}
-use Rattle.model.proofs.Chains.{exact-program}
+use Rattle.model.proofs.Tables.{exact-program}
 use Rattle.model.proofs.Within.{within-length, within-at, within-of}
 
 -- the first values of a list, by place

@@ -19,7 +19,7 @@ use Rattle.model.proofs.Every.{All}
 use Rattle.model.proofs.Accepted.{WellFormed, OfTable, tried-below}
 use Rattle.model.proofs.Runs.{Run, whether}
 use Rattle.model.proofs.Joins.{JoinLaws}
-use Rattle.model.proofs.Statements.{Exact, exact-chain, exact-same, exact-statement}
+use Rattle.model.proofs.Statements.{ExactForm, exact-chain, exact-same, exact-statement}
 
 -- m says of a packet that the rule matches
 module _ (p r : List ℕ) (packet : List ℕ) (i : ℕ) where
@@ -35,7 +35,7 @@ module _ (p r : List ℕ) (packet : List ℕ) (i : ℕ) where
 
 module _ (p r : List ℕ) (w : WellFormed p r) (rule : JoinRule) (laws : JoinLaws rule) where
   abbrev Exactly : Run → (Vars → Form) → Type 0
-  Exactly go make = Exact (widths p) (w .widthsGood) go make
+  Exactly go make = ExactForm (widths p) (w .widthsGood) go make
 
   -- an action with its data
   abbrev acts : Call → Run
