@@ -17,7 +17,7 @@ use Rattle.model.specs.declared.Stage.{Stage}
 use Rattle.model.proofs.Every.{All, all-append, all-left, all-right, all-with, build-before, build-past, from-below}
 use Rattle.model.proofs.GoodForms.{AllWidths}
 use Rattle.model.proofs.Lists.{made, build-at}
-use Rattle.model.proofs.Sorts.{Fits, fit, only-fits, Placed, node-fits}
+use Rattle.model.proofs.Sorts.{OfSort, fit, only-fits, Placed, node-fits}
 
 -- ---- the nodes under a node
 
@@ -75,24 +75,24 @@ module _ (p : List ℕ) (tables : ℕ) (given : List ℕ) where
   PlacedAt x = let n = pipelineNode p x in Placed (widths p) tables (T p) given (kindIn kinds (n .kind)) (n .a) (n .b)
 
   -- where the nodes under i are placed well, its tree fits its sort
-  abbrev pub FitsAt : ℕ → Type 0
-  FitsAt i = All PlacedAt (nodesUnder p i) → Fits (widths p) tables (sortAt (pipelineSorts p) i) (tree p given i)
+  abbrev pub OfSortAt : ℕ → Type 0
+  OfSortAt i = All PlacedAt (nodesUnder p i) → OfSort (widths p) tables (sortAt (pipelineSorts p) i) (tree p given i)
 
   module _ (all : AllWidths (widths p)) where
-    child-fits : (i c : ℕ) → i < N p → ((j : ℕ) → j < i → FitsAt j) → All PlacedAt (getD (build (underStep p) i) c [])
-        → Fits (widths p) tables (getD (build sortStep i) c Sort.Malformed) (getD (build treeStep i) c Tree.nothing)
+    child-fits : (i c : ℕ) → i < N p → ((j : ℕ) → j < i → OfSortAt j) → All PlacedAt (getD (build (underStep p) i) c [])
+        → OfSort (widths p) tables (getD (build sortStep i) c Sort.Malformed) (getD (build treeStep i) c Tree.nothing)
     unfolding pipelineSorts trees underEach
     child-fits i c h rec placed = go (ltb c i) refl
       where
-        go : (b : Bool) → ltb c i ≡ b → Fits (widths p) tables (getD (build sortStep i) c Sort.Malformed) (getD (build treeStep i) c Tree.nothing)
+        go : (b : Bool) → ltb c i ≡ b → OfSort (widths p) tables (getD (build sortStep i) c Sort.Malformed) (getD (build treeStep i) c Tree.nothing)
         go true e =
             let k = ltb-true c i e in
             rw (build-before sortStep i (N p) c Sort.Malformed k (omega arith), build-before treeStep i (N p) c Tree.nothing k (omega arith))
             (rec c k (rw (build-before (underStep p) i (N p) c [] k (omega arith)) at placed))
         go false e = rw (build-past sortStep i c Sort.Malformed (ltb-false c i e)) (fit (widths p) tables Sort.Malformed tt)
 
-    step-fits : (i : ℕ) → i < N p → ((j : ℕ) → j < i → FitsAt j) → All PlacedAt (i ∷ gathered (build (underStep p) i) (children (pipelineNode p i)))
-        → Fits (widths p) tables (sortStep (build sortStep i) i) (treeStep (build treeStep i) i)
+    step-fits : (i : ℕ) → i < N p → ((j : ℕ) → j < i → OfSortAt j) → All PlacedAt (i ∷ gathered (build (underStep p) i) (children (pipelineNode p i)))
+        → OfSort (widths p) tables (sortStep (build sortStep i) i) (treeStep (build treeStep i) i)
     unfolding sortOf
     step-fits i h rec placed =
         let n = pipelineNode p i in
@@ -102,14 +102,14 @@ module _ (p : List ℕ) (tables : ℕ) (given : List ℕ) where
         let us = build (underStep p) i in
         only-fits (widths p) tables (unusedZero k n) (sortBy (widths p) (T p) sort k (n .a) (n .b) (n .c)) λ e.
         node-fits (widths p) tables all (T p) given sort node i k (n .a) (n .b) (n .c) (placed .0)
-        (all-with (λ c. All PlacedAt (getD us c [])) (λ c. Fits (widths p) tables (sort c) (node c)) (children n) (λ c m. child-fits i c h rec)
+        (all-with (λ c. All PlacedAt (getD us c [])) (λ c. OfSort (widths p) tables (sort c) (node c)) (children n) (λ c m. child-fits i c h rec)
         (all-gathered PlacedAt us (children n) (placed .1)))
 
-    pub fits-at : (i : ℕ) → FitsAt i
+    pub fits-at : (i : ℕ) → OfSortAt i
     unfolding pipelineSorts trees made
-    fits-at = from-below FitsAt λ i rec. go i rec (ltb i (N p)) refl
+    fits-at = from-below OfSortAt λ i rec. go i rec (ltb i (N p)) refl
       where
-        go : (i : ℕ) → ((j : ℕ) → j < i → FitsAt j) → (b : Bool) → ltb i (N p) ≡ b → FitsAt i
+        go : (i : ℕ) → ((j : ℕ) → j < i → OfSortAt j) → (b : Bool) → ltb i (N p) ≡ b → OfSortAt i
         go i rec true e placed =
             let h = ltb-true i (N p) e in
             rw (build-at sortStep (N p) i Sort.Malformed h, build-at treeStep (N p) i Tree.nothing h) (step-fits i h rec (rw (under-at p i h) at placed))

@@ -34,36 +34,36 @@ module _ (ws : List ℕ) (tables : ℕ) where
   Formed Sort.Statement t = Good ws tables (asStatement t)
 
   -- the tree is well formed and of the sort; what has no sort may be anything
-  pub record Fits (s : Sort) (t : Tree) : Type 0 where
+  pub record OfSort (s : Sort) (t : Tree) : Type 0 where
     pub formed : Formed s t
 
-  pub fit : (s : Sort) {t : Tree} → Formed s t → Fits s t
+  pub fit : (s : Sort) {t : Tree} → Formed s t → OfSort s t
   fit s h = record { formed = h }
 
-  pub only-fits : (good : Bool) (s : Sort) {t : Tree} → (good ≡ true → Fits s t) → Fits (only good s) t
+  pub only-fits : (good : Bool) (s : Sort) {t : Tree} → (good ≡ true → OfSort s t) → OfSort (only good s) t
   only-fits true s h = h refl
   only-fits false s h = fit Sort.Malformed tt
 
   -- a sort that passes a test, read as what the test says
-  as-value : {s : Sort} {t : Tree} → isValue s ≡ true → Fits s t → Valued (widthOf s) t
+  as-value : {s : Sort} {t : Tree} → isValue s ≡ true → OfSort s t → Valued (widthOf s) t
   as-value {s = Sort.Malformed} e h = absurd (false≢true e)
   as-value {s = Sort.Value w} e h = h .formed
   as-value {s = Sort.Test} e h = absurd (false≢true e)
   as-value {s = Sort.Statement} e h = absurd (false≢true e)
 
-  of-value : (s : Sort) {t : Tree} → isValue s ≡ true → Valued (widthOf s) t → Fits s t
+  of-value : (s : Sort) {t : Tree} → isValue s ≡ true → Valued (widthOf s) t → OfSort s t
   of-value Sort.Malformed e h = absurd (false≢true e)
   of-value (Sort.Value w) e h = fit (Sort.Value w) h
   of-value Sort.Test e h = absurd (false≢true e)
   of-value Sort.Statement e h = absurd (false≢true e)
 
-  as-test : {s : Sort} {t : Tree} → isTest s ≡ true → Fits s t → GoodTest ws (asTest t)
+  as-test : {s : Sort} {t : Tree} → isTest s ≡ true → OfSort s t → GoodTest ws (asTest t)
   as-test {s = Sort.Malformed} e h = absurd (false≢true e)
   as-test {s = Sort.Value w} e h = absurd (false≢true e)
   as-test {s = Sort.Test} e h = h .formed
   as-test {s = Sort.Statement} e h = absurd (false≢true e)
 
-  pub as-statement : {s : Sort} {t : Tree} → isStatement s ≡ true → Fits s t → Good ws tables (asStatement t)
+  pub as-statement : {s : Sort} {t : Tree} → isStatement s ≡ true → OfSort s t → Good ws tables (asStatement t)
   as-statement {s = Sort.Malformed} e h = absurd (false≢true e)
   as-statement {s = Sort.Value w} e h = absurd (false≢true e)
   as-statement {s = Sort.Test} e h = absurd (false≢true e)
@@ -76,7 +76,7 @@ module _ (ws : List ℕ) (tables : ℕ) where
     right : GoodValue ws (asValue y)
     same : widthOfValue ws (asValue x) ≡ widthOfValue ws (asValue y)
 
-  both-alike : {s t : Sort} {x y : Tree} → alike s t ≡ true → Fits s x → Fits t y → Same s x y
+  both-alike : {s t : Sort} {x y : Tree} → alike s t ≡ true → OfSort s x → OfSort t y → Same s x y
   both-alike {s} {t} e h k =
       let b = both-true (isValue s) (eqb (widthOf s) (widthOf t)) e in
       let q = eqb-true (widthOf s) (widthOf t) (b .1) in
@@ -86,17 +86,17 @@ module _ (ws : List ℕ) (tables : ℕ) where
 
   -- a value whose width is that of the first of two
   over-same : {s : Sort} {x y : Tree} (t : Tree) → Same s x y → GoodValue ws (asValue t)
-      → widthOfValue ws (asValue t) ≡ widthOfValue ws (asValue x) → Fits s t
+      → widthOfValue ws (asValue t) ≡ widthOfValue ws (asValue x) → OfSort s t
   over-same {s} t h good same = of-value s (h .isOne) (record { good = good; width = same ∙ h .left .width; bounds = h .left .bounds })
 
-  both-tests : {s t : Sort} {x y : Tree} → isTest s && isTest t ≡ true → Fits s x → Fits t y → GoodTest ws (asTest x) × GoodTest ws (asTest y)
+  both-tests : {s t : Sort} {x y : Tree} → isTest s && isTest t ≡ true → OfSort s x → OfSort t y → GoodTest ws (asTest x) × GoodTest ws (asTest y)
   both-tests {s} {t} e h k = let b = both-true (isTest s) (isTest t) e in (as-test (b .0) h, as-test (b .1) k)
 
-  both-statements : {s t : Sort} {x y : Tree} → isStatement s && isStatement t ≡ true → Fits s x → Fits t y
+  both-statements : {s t : Sort} {x y : Tree} → isStatement s && isStatement t ≡ true → OfSort s x → OfSort t y
       → Good ws tables (asStatement x) × Good ws tables (asStatement y)
   both-statements {s} {t} e h k = let b = both-true (isStatement s) (isStatement t) e in (as-statement (b .0) h, as-statement (b .1) k)
 
-  constant-fits : (n w : ℕ) → isWidth w ≡ true → n < 2 ^ w → Fits (Sort.Value w) (Tree.value (Val.constant n w))
+  constant-fits : (n w : ℕ) → isWidth w ≡ true → n < 2 ^ w → OfSort (Sort.Value w) (Tree.value (Val.constant n w))
   unfolding GoodValue widthOfValue
   constant-fits n w e h = fit (Sort.Value w) (record { good = (width-true w e, h); width = refl; bounds = width-true w e })
 
@@ -108,9 +108,9 @@ module _ (ws : List ℕ) (tables : ℕ) where
   module _ (all : AllWidths ws) (count : ℕ) (given : List ℕ) (sort : ℕ → Sort) (tree : ℕ → Tree) (i : ℕ) where
     -- where the children's trees fit their sorts, the node's fits the sort it has
     abbrev pub Follows : Kind → ℕ → ℕ → ℕ → Type 0
-    Follows k a b c = Fits (sortBy ws count sort k a b c) (treeBy given tree i k a b c)
+    Follows k a b c = OfSort (sortBy ws count sort k a b c) (treeBy given tree i k a b c)
 
-    slice-fits : (a b c : ℕ) → Fits (sort a) (tree a) → Follows Kind.Slice a b c
+    slice-fits : (a b c : ℕ) → OfSort (sort a) (tree a) → Follows Kind.Slice a b c
     unfolding GoodValue widthOfValue
     slice-fits a b c h =
         only-fits (ltb b (widthOf (sort a)) && leb c b) (Sort.Value (b - c + 1)) λ e.
@@ -120,7 +120,7 @@ module _ (ws : List ℕ) (tables : ℕ) where
         let v = as-value (lt-ltb 0 (widthOf (sort a)) (omega arith)) h in
         fit (Sort.Value (b - c + 1)) (record { good = (v .good, rw (v .width) high, low); width = refl; bounds = (omega arith, omega arith) })
 
-    join-fits : (a b c : ℕ) → Fits (sort a) (tree a) → Fits (sort b) (tree b) → Follows Kind.Join a b c
+    join-fits : (a b c : ℕ) → OfSort (sort a) (tree a) → OfSort (sort b) (tree b) → Follows Kind.Join a b c
     unfolding GoodValue widthOfValue
     join-fits a b c h k =
         let total = widthOf (sort a) + widthOf (sort b) in
@@ -133,7 +133,7 @@ module _ (ws : List ℕ) (tables : ℕ) where
         fit (Sort.Value total)
         (record { good = (l .good, r .good, rw (l .width, r .width) most); width = rw (l .width, r .width); bounds = (omega arith, most) })
 
-    select-fits : (a b c : ℕ) → Fits (sort a) (tree a) → Fits (sort b) (tree b) → Fits (sort c) (tree c) → Follows Kind.Select a b c
+    select-fits : (a b c : ℕ) → OfSort (sort a) (tree a) → OfSort (sort b) (tree b) → OfSort (sort c) (tree c) → Follows Kind.Select a b c
     unfolding GoodValue widthOfValue
     select-fits a b c h k l =
         only-fits (isTest (sort a) && alike (sort b) (sort c)) (sort b) λ e.
@@ -141,11 +141,11 @@ module _ (ws : List ℕ) (tables : ℕ) where
         let s = both-alike (x .1) k l in
         over-same _ s (as-test (x .0) h, s .left .good, s .right, s .same) refl
 
-    field-fits : (a : ℕ) → a < length ws → Fits (Sort.Value (getD ws a 0)) (Tree.value (Val.field a))
+    field-fits : (a : ℕ) → a < length ws → OfSort (Sort.Value (getD ws a 0)) (Tree.value (Val.field a))
     unfolding GoodValue widthOfValue
     field-fits a h = fit (Sort.Value (getD ws a 0)) (record { good = h; width = refl; bounds = all a h })
 
-    assign-fits : (a b c : ℕ) → Fits (sort b) (tree b) → Follows Kind.Assign a b c
+    assign-fits : (a b c : ℕ) → OfSort (sort b) (tree b) → Follows Kind.Assign a b c
     unfolding Good widthOfValue
     assign-fits a b c h =
         let w = getD ws a 0 in
@@ -156,7 +156,7 @@ module _ (ws : List ℕ) (tables : ℕ) where
         fit Sort.Statement (there, s .left .good, s .same)
 
     pub node-fits : (k : Kind) (a b c : ℕ) → Placed count given k a b
-        → All (λ j. Fits (sort j) (tree j)) (childIn (roles k .a) a ++ childIn (roles k .b) b ++ childIn (roles k .c) c) → Follows k a b c
+        → All (λ j. OfSort (sort j) (tree j)) (childIn (roles k .a) a ++ childIn (roles k .b) b ++ childIn (roles k .c) c) → Follows k a b c
     unfolding GoodValue GoodTest Good widthOfValue
     node-fits Kind.Constant a b c p h =
         only-fits (isWidth b && fits b a) (Sort.Value b) λ e.
