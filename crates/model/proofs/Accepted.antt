@@ -25,11 +25,11 @@ use Rattle.model.specs.declared.Group.{Group}
 use Rattle.model.specs.declared.Hit.{Hit}
 use Rattle.model.specs.declared.Kind.{Kind}
 use Rattle.model.specs.declared.Sort.{Sort}
-use Rattle.model.proofs.KindNumbers.{kind-number}
 use Rattle.model.proofs.Booleans.{both-true}
-use Rattle.model.proofs.Every.{All, every-at, exists-at, all-each, all-those, all-ordered, all-with, build-past}
-use Rattle.model.proofs.GoodForms.{AllWidths}
 use Rattle.model.proofs.Lists.{length-each, each-at}
+use Rattle.model.proofs.Every.{All, every-at, exists-at, all-each, all-those, all-ordered, all-with, build-past}
+use Rattle.model.proofs.KindNumbers.{kind-number}
+use Rattle.model.proofs.GoodForms.{AllWidths}
 use Rattle.model.proofs.Refusals.{clear}
 use Rattle.model.proofs.Sorts.{width-true, as-statement}
 use Rattle.model.proofs.Decoded.{nodesUnder, under-below, PlacedAt, fits-at}

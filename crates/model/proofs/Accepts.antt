@@ -20,11 +20,11 @@ use Rattle.model.specs.Calls.{condition, evaluate, conditionTruth}
 use Rattle.model.specs.Demands.{WellBefore, Clear, Small, formWords, conditionWords, variableWidths}
 use Rattle.model.specs.declared.Stage.{Stage}
 use Rattle.model.specs.declared.Sort.{Sort}
-use Rattle.model.proofs.Within.{within-length, within-at}
-use Rattle.model.proofs.GoodForms.{AllWidths, GoodPassive}
 use Rattle.model.proofs.Booleans.{both-true}
-use Rattle.model.proofs.NodeList.{length-words, nodeCount-words, gives-statement, emitted-spans}
+use Rattle.model.proofs.GoodForms.{AllWidths, GoodPassive}
+use Rattle.model.proofs.Within.{within-length, within-at}
 use Rattle.model.proofs.Refusals.{clear-judge}
+use Rattle.model.proofs.NodeList.{length-words, nodeCount-words, gives-statement, emitted-spans}
 use Rattle.model.proofs.Formed.{sort, sorts-at, Well, statement-well}
 use Rattle.model.proofs.EntrySorts.{length-built, entries-formed, entries-end}
 

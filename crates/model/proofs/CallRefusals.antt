@@ -20,8 +20,8 @@ use Rattle.model.specs.Calls.{written, unlessRefused, lookup, ended, fai
 use Rattle.model.specs.Demands.{Exact, ExactOnRun, Kept, Clear, First, Applies, OneAnswer, Demand1}
 use Rattle.model.specs.declared.Hit.{Hit}
 use Rattle.model.specs.declared.Part.{Part}
-use Rattle.model.proofs.Hits.{hit-below, rule-there, default-there, part-there}
 use Rattle.model.proofs.Refusals.{judge-exact, clear, clear-judge}
+use Rattle.model.proofs.Hits.{hit-below, rule-there, default-there, part-there}
 
 pub never : {A : Type 0} {x : A} {n q : ℕ} → done x ≡ refused n q → ⊥
 never e = let z : _≡_ {A = ℕ} 0 1 = cc in omega arith

@@ -10,10 +10,10 @@ use lib.Dec.{eqb}
 use lib.ListN.{getD, length, length-map}
 use lib.Seq.{ext-getD}
 use borrow.Author.Tests.{eqb-true, eqb-false}
-use Rattle.model.specs.Passive.{Passive, Origin, Vars, vars, next, beside, Form, JoinRule, joinedVars, newWidths, equations, join, _then_}
-use Rattle.model.specs.Runs.{State, state, Outcome, passed, failed, blocked, refused}
 use Rattle.model.specs.Lists.{if_then_else_}
 use Rattle.model.specs.Trees.{Test, truthOf}
+use Rattle.model.specs.Runs.{State, state, Outcome, passed, failed, blocked, refused}
+use Rattle.model.specs.Passive.{Passive, Origin, Vars, vars, next, beside, Form, JoinRule, joinedVars, newWidths, equations, join, _then_}
 use Rattle.model.specs.Walk.{equal, goesOn, goesWrong}
 use Rattle.model.proofs.Booleans.{true-both, or-left, or-right}
 use Rattle.model.proofs.GoodForms.{AllWidths}
@@ -21,9 +21,9 @@ use Rattle.model.proofs.Renaming.{getD-map}
 use Rattle.model.proofs.Variables.{var, Front, front-trans, front-append, Ready, Steps}
 use Rattle.model.proofs.Joins.{JoinLaws, ready-joined, steps-joined, left-apart, right-apart}
 use Rattle.model.proofs.Equations.{valued, map-equal}
+use Rattle.model.proofs.Runs.{Run, eitherOf, whether}
 use Rattle.model.proofs.Valuations.{Agree, agree-refl, agree-less, agree-trans, given, given-keeps, given-at, Fits, given-fits}
 use Rattle.model.proofs.Completeness.{Extends, aim, sideAim, On, Meets, Complete, weaker, still, packet-at, packet-fits}
-use Rattle.model.proofs.Runs.{Run, eitherOf, whether}
 
 module _ (ws widths : List ℕ) (rule : JoinRule) (laws : JoinLaws rule) (sizes : AllWidths ws) (e l r : Vars)
     (ke : Ready ws e) (kl : Ready ws l) (kr : Ready ws r) (left : Steps ws e l) (right : Steps ws (beside e l) r) where

@@ -14,9 +14,9 @@ use Rattle.model.specs.Trees.{Tree, trees, tree, treeOf}
 use Rattle.model.specs.Refusals.{pipelineSorts, sortAt, gathered, underEach}
 use Rattle.model.specs.declared.Sort.{Sort}
 use Rattle.model.specs.declared.Stage.{Stage}
+use Rattle.model.proofs.Lists.{made, build-at}
 use Rattle.model.proofs.Every.{All, all-append, all-left, all-right, all-with, build-before, build-past, from-below}
 use Rattle.model.proofs.GoodForms.{AllWidths}
-use Rattle.model.proofs.Lists.{made, build-at}
 use Rattle.model.proofs.Sorts.{OfSort, fit, only-fits, Placed, node-fits}
 
 -- ---- the nodes under a node

@@ -13,8 +13,8 @@ use Rattle.model.specs.Nodes.{numberOf, allowed, roles, renumberedIn}
 use Rattle.model.specs.Condition.{no, notEntry, on, entriesOf, conditionOf}
 use Rattle.model.specs.declared.Kind.{Kind}
 use Rattle.model.specs.declared.Stage.{Stage}
-use Rattle.model.proofs.KindNumbers.{kindIn-number, entry-below}
 use Rattle.model.proofs.Lists.{length-joined, joined-at}
+use Rattle.model.proofs.KindNumbers.{kindIn-number, entry-below}
 use Rattle.model.proofs.NodeList.{nodeCount-words, plainNode-words}
 
 either-way : (A : List Node → Type 0) (b : Bool) {x y : List Node} → A x → A y → A (if b then x else y)

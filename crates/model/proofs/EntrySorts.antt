@@ -18,10 +18,10 @@ use Rattle.model.specs.declared.Connective.{Connective}
 use Rattle.model.specs.declared.Kind.{Kind}
 use Rattle.model.specs.declared.Stage.{Stage}
 use Rattle.model.specs.declared.Sort.{Sort}
-use Rattle.model.proofs.KindNumbers.{kind-or-unknown, entry-below, binary-allowed, compare-allowed, connect-allowed}
-use Rattle.model.proofs.Lists.{made, length-each, each-at}
 use Rattle.model.proofs.Booleans.{both-true}
+use Rattle.model.proofs.Lists.{made, length-each, each-at}
 use Rattle.model.proofs.Every.{build-past, from-below}
+use Rattle.model.proofs.KindNumbers.{kind-or-unknown, entry-below, binary-allowed, compare-allowed, connect-allowed}
 use Rattle.model.proofs.NodeList.{nodeCount-words, plainNode-words}
 use Rattle.model.proofs.Entries.{overEntries, expression-entry, length-condition, entryAt, owned-entry, last-entry}
 use Rattle.model.proofs.Formed.{step, sort, sort-before, node-sort}

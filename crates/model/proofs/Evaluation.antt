@@ -19,8 +19,8 @@ use Rattle.model.specs.Calls.{conditionTruth}
 use Rattle.model.specs.declared.Connective.{Connective}
 use Rattle.model.specs.declared.Kind.{Kind}
 use Rattle.model.specs.declared.Stage.{Stage}
-use Rattle.model.proofs.KindNumbers.{kindOf-number, binary-allowed, compare-allowed, connect-allowed}
 use Rattle.model.proofs.Lists.{made, build-at, build-last}
+use Rattle.model.proofs.KindNumbers.{kindOf-number, binary-allowed, compare-allowed, connect-allowed}
 use Rattle.model.proofs.NodeList.{nodeCount-words, SpansValue, SpansTest, Tied, tied-order, SpansStatement, gives-statement, emitted-spans, equality}
 use Rattle.model.proofs.Entries.{overEntries, expression-entry, length-condition, entryAt, owned-entry, last-entry}
 

@@ -18,9 +18,9 @@ use Rattle.model.specs.Refusals.{sortAt}
 use Rattle.model.specs.declared.Kind.{Kind}
 use Rattle.model.specs.declared.Stage.{Stage}
 use Rattle.model.specs.declared.Sort.{Sort}
+use Rattle.model.proofs.Lists.{made, build-at}
 use Rattle.model.proofs.KindNumbers.{kindOf-number, entry-allowed, binary-allowed, compare-allowed, connect-allowed}
 use Rattle.model.proofs.GoodForms.{AllWidths, GoodEquations, GoodPassive}
-use Rattle.model.proofs.Lists.{made, build-at}
 use Rattle.model.proofs.NodeList.{Own, SpansValue, SpansTest, Tied, Joined, tied-order, SpansStatement, equality}
 
 -- the width of a well-formed value is one

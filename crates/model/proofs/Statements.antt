@@ -10,20 +10,20 @@ use lib.ListN.{getD, length, length-append}
 use Rattle.model.specs.Trees.{Val, Test, Stmt, truthOf, bitsIn}
 use Rattle.model.specs.Good.{widthOfValue, GoodValue, GoodTest, Good}
 use Rattle.model.specs.Runs.{State, Outcome, run}
-use Rattle.model.specs.declared.Comparison.{Comparison}
-use Rattle.model.specs.Emit.{past, emit}
 use Rattle.model.specs.Passive.{Passive, Origin, Vars, next, beside, Form, form, JoinRule, newWidths, equations, join, passify, renamed, renamedTest, _then_}
-use Rattle.model.proofs.Sizes.{sizeAt, size-assume, size-then, size-choice, behind-assume, new-equations}
+use Rattle.model.specs.Emit.{past, emit}
+use Rattle.model.specs.declared.Comparison.{Comparison}
 use Rattle.model.proofs.GoodForms.{AllWidths, GoodEquations, GoodPassive}
 use Rattle.model.proofs.Variables.{var, Front, front-trans, front-append, Ready, Steps, steps-refl, steps-trans, ready-fresh, steps-fresh, fresh-there, fresh-width}
 use Rattle.model.proofs.Joins.{JoinLaws, ready-joined, steps-joined}
 use Rattle.model.proofs.Equations.{good-equations}
 use Rattle.model.proofs.Reading.{reads-good, reads-width, reads-good-test, reads-truth}
 use Rattle.model.proofs.Runs.{Run, inOrder, eitherOf, whether, goes-same, fails-same}
-use Rattle.model.proofs.Valuations.{Fits}
 use Rattle.model.proofs.Soundness.{Sound, sound-both, sound-choice, sound-chain, sound-skip, sound-havoc, sound-assign, sound-assume, sound-assert}
+use Rattle.model.proofs.Valuations.{Fits}
 use Rattle.model.proofs.Completeness.{Complete, complete-both, complete-skip, complete-havoc, complete-assign, complete-assume, complete-assert, still-truth}
 use Rattle.model.proofs.Choices.{complete-choice, complete-chain}
+use Rattle.model.proofs.Sizes.{sizeAt, size-assume, size-then, size-choice, behind-assume, new-equations}
 
 module _ (ws : List ℕ) (sizes : AllWidths ws) where
   pub record ExactForm (go : Run) (make : Vars → Form) : Type 0 where

@@ -17,8 +17,8 @@ use Rattle.model.specs.Passive.{Vars, Form, JoinRule, passify, keyTests,
 use Rattle.model.specs.declared.Hit.{Hit}
 use Rattle.model.proofs.Every.{All}
 use Rattle.model.proofs.Accepted.{WellFormed, OfTable, tried-below}
-use Rattle.model.proofs.Runs.{Run, whether}
 use Rattle.model.proofs.Joins.{JoinLaws}
+use Rattle.model.proofs.Runs.{Run, whether}
 use Rattle.model.proofs.Statements.{ExactForm, exact-chain, exact-same, exact-statement}
 
 -- m says of a packet that the rule matches

@@ -20,8 +20,9 @@ use Rattle.model.specs.Passive.{Vars, vars, Form, JoinRule, passiveBy}
 use Rattle.model.specs.Emit.{emit}
 use Rattle.model.specs.Walk.{goesWrong, walkWrong}
 use Rattle.model.specs.Demands.{FailsWith}
-use Rattle.model.proofs.GoodForms.{AllWidths, GoodPassive}
 use Rattle.model.proofs.Lists.{length-each, each-at}
+use Rattle.model.proofs.GoodForms.{AllWidths, GoodPassive}
+use Rattle.model.proofs.Within.{within-length, within-at, within-of}
 use Rattle.model.proofs.Accepted.{WellFormed}
 use Rattle.model.proofs.Renaming.{getD-map}
 use Rattle.model.proofs.Variables.{var, Front, front-refl, Ready}
@@ -29,7 +30,6 @@ use Rattle.model.proofs.Joins.{JoinLaws}
 use Rattle.model.proofs.Valuations.{Fits}
 use Rattle.model.proofs.Completeness.{Extends, Wrong, aim, Meets}
 use Rattle.model.proofs.Tables.{exact-program}
-use Rattle.model.proofs.Within.{within-length, within-at, within-of}
 
 -- the first values of a list, by place
 first-values : (vs : List ℕ) (n : ℕ) → n ≤ length vs → map (λ x. getD vs x 0) (each (λ i. i) n) ≡ take n vs
