@@ -96,7 +96,7 @@ module _ (q : Passive) (ws : List ℕ) (good : GoodPassive ws q) (all : AllWidth
   form-well : Well ws all (plainNode formOf) 0 (top 0 (emit q 0)) Sort.Statement
   form-well = statement-well ws all (plainNode formOf) q 0 (top 0 (emit q 0)) good (emitted-spans q)
 
-  form-formed : (i : ℕ) → i < nodeCount formOf → isFormed (sort Stage.Passive ws (plainNode formOf) i) ≡ true
+  pub form-formed : (i : ℕ) → i < nodeCount formOf → isFormed (sort Stage.Passive ws (plainNode formOf) i) ≡ true
   form-formed i h = form-well .formed i (omega arith) (omega (arith, nodeCount-words (emit q 0)))
 
   form-end : (i : ℕ) → suc i ≡ nodeCount formOf → isStatement (sort Stage.Passive ws (plainNode formOf) i) ≡ true

@@ -28,18 +28,26 @@ use Rattle.model.proofs.Formed.{step, sort, sort-before, node-sort}
 
 -- ---- what a formed node is
 
-only-formed : (b : Bool) (s : Sort) → isFormed (only b s) ≡ true → (b ≡ true) × (isFormed s ≡ true)
+-- a formed child stands before its parent
+pub formed-before : (f : List Sort → ℕ → Sort) (i x : ℕ) → isFormed (getD (build f i) x Sort.Malformed) ≡ true → x < i
+formed-before f i x h = go (ltb x i) refl
+  where
+    go : (b : Bool) → ltb x i ≡ b → x < i
+    go true e = ltb-true x i e
+    go false e = absurd (false≢true (rw (build-past f i x Sort.Malformed (ltb-false x i e)) at h))
+
+pub only-formed : (b : Bool) (s : Sort) → isFormed (only b s) ≡ true → (b ≡ true) × (isFormed s ≡ true)
 only-formed true s h = (refl, h)
 only-formed false s h = (cc, cc)
 
 -- the kind and the words of a formed node, and its sort
-record HasKind (stage : Stage) (ws : List ℕ) (before : List Sort) (m : Node) (k : Kind) : Type 0 where
-  is : m ≡ node (numberOf k) (m .a) (m .b) (m .c)
-  may : allowed stage (numberOf k) ≡ true
-  zeros : unusedZero k m ≡ true
-  good : isFormed (sortBy ws 0 (λ x. getD before x Sort.Malformed) k (m .a) (m .b) (m .c)) ≡ true
+pub record HasKind (stage : Stage) (ws : List ℕ) (before : List Sort) (m : Node) (k : Kind) : Type 0 where
+  pub is : m ≡ node (numberOf k) (m .a) (m .b) (m .c)
+  pub may : allowed stage (numberOf k) ≡ true
+  pub zeros : unusedZero k m ≡ true
+  pub good : isFormed (sortBy ws 0 (λ x. getD before x Sort.Malformed) k (m .a) (m .b) (m .c)) ≡ true
 
-formed-node : (stage : Stage) (ws : List ℕ) (before : List Sort) (m : Node) → isFormed (sortOf stage ws 0 before m) ≡ true
+pub formed-node : (stage : Stage) (ws : List ℕ) (before : List Sort) (m : Node) → isFormed (sortOf stage ws 0 before m) ≡ true
     → HasKind stage ws before m (kindOf stage (m .kind))
 unfolding sortOf
 formed-node stage ws before m h = go (allowed stage (m .kind)) refl (kind-or-unknown kinds (m .kind)) h
@@ -75,19 +83,19 @@ value-kept (Sort.Value w) h = refl
 value-kept Sort.Test h = refl
 value-kept Sort.Statement h = cc
 
-test-is : (s : Sort) → isTest s ≡ true → s ≡ Sort.Test
+pub test-is : (s : Sort) → isTest s ≡ true → s ≡ Sort.Test
 test-is Sort.Malformed h = cc
 test-is (Sort.Value w) h = cc
 test-is Sort.Test h = refl
 test-is Sort.Statement h = cc
 
-statement-is : (s : Sort) → isStatement s ≡ true → s ≡ Sort.Statement
+pub statement-is : (s : Sort) → isStatement s ≡ true → s ≡ Sort.Statement
 statement-is Sort.Malformed h = cc
 statement-is (Sort.Value w) h = cc
 statement-is Sort.Test h = cc
 statement-is Sort.Statement h = refl
 
-alike-parts : (s t : Sort) → alike s t ≡ true → (isValue s ≡ true) × (isValue t ≡ true)
+pub alike-parts : (s t : Sort) → alike s t ≡ true → (isValue s ≡ true) × (isValue t ≡ true)
 alike-parts s t h =
     let k = both-true (isValue s) (eqb (widthOf s) (widthOf t)) h in
     let e = eqb-true (widthOf s) (widthOf t) (k .1) in
@@ -99,7 +107,7 @@ entry-kept (Sort.Value w) h = h
 entry-kept Sort.Test h = h
 entry-kept Sort.Statement h = h
 
-value-formed : (s : Sort) → isValue s ≡ true → isFormed s ≡ true
+pub value-formed : (s : Sort) → isValue s ≡ true → isFormed s ≡ true
 value-formed Sort.Malformed h = h
 value-formed (Sort.Value w) h = refl
 value-formed Sort.Test h = refl
@@ -222,11 +230,7 @@ module _ (ws : List ℕ) (nodes entries : ℕ → Node) (n : ℕ)
     own x = getD (build (step Stage.Passive ws nodes) i) x Sort.Malformed
 
     there : (x : ℕ) → isFormed (own x) ≡ true → x < i
-    there x f = go (ltb x i) refl
-      where
-        go : (b : Bool) → ltb x i ≡ b → x < i
-        go true e = ltb-true x i e
-        go false e = absurd (false≢true (rw (build-past (step Stage.Passive ws nodes) i x Sort.Malformed (ltb-false x i e)) at f))
+    there x f = formed-before (step Stage.Passive ws nodes) i x f
 
     child-first : (x : ℕ) → isFormed (own x) ≡ true → sortOfEntry (3 * x) ≡ entrySort (own x)
     child-first x f = before x (there x f) .first ∙ ap entrySort (sym (sort-before Stage.Passive ws nodes i x (there x f) refl))

@@ -2,17 +2,17 @@
 use Prim.Native.Nat.{ℕ, zero, suc, _<_, _≤_}
 use native.Mathlib.Nat.{not-suc-le-zero, le-of-suc-le-suc, eq-or-lt-of-le, lt-of-lt-of-le}
 use native.Mathlib.Omega.{arith}
-use mathlib.Core.Path.{_≡_, refl, sym, _∙_}
+use mathlib.Core.Path.{_≡_, refl, sym, subst, _∙_}
 use mathlib.Core.Bool.{Bool, true, false}
 use mathlib.Core.Logic.{_⊎_, inl, inr}
 use mathlib.Core.List.{List, [], _∷_, _++_}
 use lib.Dec.{eqb, ltb}
 use lib.ListN.{getD, List·getD-eq-default}
-use borrow.Author.Tests.{eq-eqb, lt-ltb}
+use borrow.Author.Tests.{eq-eqb, lt-ltb, ltb-true, ltb-false}
 use Rattle.model.specs.Lists.{if_then_else_, build, each, every, exists, those, times, among}
 use Rattle.model.specs.Tables.{placed, ordered}
 use Rattle.model.proofs.Booleans.{both-true}
-use Rattle.model.proofs.Lists.{length-build, build-at}
+use Rattle.model.proofs.Lists.{made, length-build, build-at}
 
 -- ---- places
 
@@ -51,6 +51,19 @@ from-below P step i = step i (upTo i)
     upTo : (n j : ℕ) → j < n → P j
     upTo zero j h = absurd (not-suc-le-zero h)
     upTo (suc n) j h = step j (λ m k. upTo n m (lt-of-lt-of-le k (le-of-suc-le-suc h)))
+
+-- What every element of a list made front to back has: each has it where all before it do, and so does what stands past the end.
+module _ {A : Type 0} (f : List A → ℕ → A) (P : A → Type 0) (d : A) (past : P d) where
+  pub build-has : (n x : ℕ) → ((j : ℕ) → j < n → P (made f j)) → P (getD (build f n) x d)
+  build-has n x h = go (ltb x n) refl
+    where
+      go : (b : Bool) → ltb x n ≡ b → P (getD (build f n) x d)
+      go true e = let k = ltb-true x n e in subst P (sym (build-at f n x d k)) (h x k)
+      go false e = subst P (sym (build-past f n x d (ltb-false x n e))) past
+
+  pub made-has : ((before : List A) (i : ℕ) → ((x : ℕ) → P (getD before x d)) → P (f before i)) → (i : ℕ) → P (made f i)
+  unfolding made
+  made-has step = from-below (λ i. P (made f i)) (λ i h. step (build f i) i (λ x. build-has i x h))
 
 -- ---- elements
 

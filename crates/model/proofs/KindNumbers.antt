@@ -14,6 +14,7 @@ use Rattle.model.specs.declared.Comparison.{Comparison}
 use Rattle.model.specs.declared.Connective.{Connective}
 use Rattle.model.specs.declared.Kind.{Kind}
 use Rattle.model.specs.declared.Stage.{Stage}
+use Rattle.model.proofs.Every.{All}
 
 -- a number that has a kind is that kind's
 pub kind-or-unknown : (ks : List Kind) (m : ℕ) → (kindIn ks m ≡ Kind.Unknown) ⊎ (m ≡ numberOf (kindIn ks m))
@@ -63,6 +64,19 @@ kindIn-number Kind.Sequence = refl
 kindIn-number Kind.Choice = refl
 kindIn-number Kind.Apply = refl
 kindIn-number Kind.Unknown = refl
+
+-- the highest is 39
+kind-low : (ks : List Kind) (m : ℕ) → All (λ k. numberOf k ≤ 39) ks → numberOf (kindIn ks m) ≤ 39
+unfolding kindIn
+kind-low [] m h = omega arith
+kind-low (k ∷ ks) m h = go (eqb m (numberOf k)) (kind-low ks m (h .1))
+  where
+    go : (b : Bool) → numberOf (kindIn ks m) ≤ 39 → numberOf (if b then k else kindIn ks m) ≤ 39
+    go true rest = h .0
+    go false rest = rest
+
+pub number-low : (k : Kind) → numberOf k ≤ 39
+number-low k = rw kindIn-number at (kind-low kinds (numberOf k) (omega arith))
 
 pub kindOf-number : (stage : Stage) (k : Kind) → allowed stage (numberOf k) ≡ true → kindOf stage (numberOf k) ≡ k
 kindOf-number stage k h = rw h (kindIn-number k)

@@ -41,5 +41,6 @@ pub mod Evaluation
 pub mod Formed
 pub mod EntrySorts
 pub mod Accepts
+pub mod WordsFit
 -- demand 3
 pub mod Demands
