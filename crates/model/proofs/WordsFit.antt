@@ -14,7 +14,7 @@ use Rattle.model.specs.Lists.{build, times}
 use Rattle.model.specs.Blocks.{Node, words, plainNode}
 use Rattle.model.specs.Nodes.{kindOf, allowed, Role, child, number, unused, roles, zeroIn, unusedZero, widthOf, isTest, isStatement, isFormed, isWidth, isValue, alike, only, sortBy, sortOf}
 use Rattle.model.specs.Passive.{newWhereDiffers, passive}
-use Rattle.model.specs.Emit.{passiveForm}
+use Rattle.model.specs.Emit.{formLimit, passiveForm}
 use Rattle.model.specs.Condition.{no, conditionOf, nodeCount}
 use Rattle.model.specs.Demands.{Accepted, Small, formWords, conditionWords, variableWidths}
 use Rattle.model.specs.declared.Kind.{Kind}
@@ -23,12 +23,12 @@ use Rattle.model.specs.declared.Sort.{Sort}
 use Rattle.model.proofs.Booleans.{both-true}
 use Rattle.model.proofs.Lists.{made}
 use Rattle.model.proofs.Every.{All, made-has, build-has}
-use Rattle.model.proofs.Sorts.{width-true}
 use Rattle.model.proofs.KindNumbers.{number-low}
 use Rattle.model.proofs.GoodForms.{AllWidths}
+use Rattle.model.proofs.Sorts.{width-true}
 use Rattle.model.proofs.Accepted.{accepted-good}
 use Rattle.model.proofs.Joins.{document-joins}
-use Rattle.model.proofs.Theorem.{form-sized, form-good}
+use Rattle.model.proofs.Theorem.{form-sized, form-good, variables-counted}
 use Rattle.model.proofs.NodeList.{nodeCount-words, plainNode-words, gives-statement}
 use Rattle.model.proofs.Formed.{step, sort}
 use Rattle.model.proofs.EntrySorts.{formed-before, only-formed, formed-node, value-formed, test-is, statement-is, alike-parts, length-built, entries-formed}
@@ -219,9 +219,16 @@ words-fit stage bare ws all few ns low formed =
 
 -- ---- the words of a pipeline's form and condition
 
-module _ (p r : List ℕ) (accepted : Accepted p r) (small : Small p r) (few : length (variableWidths p r) ≤ 2 ^ 32) where
+module _ (p r : List ℕ) (accepted : Accepted p r) (small : Small p r) where
   abbrev ns : List Node
   ns = passiveForm p r .nodes
+
+  -- 32 fields, and a new variable for at most each node
+  pub few-variables : length (variableWidths p r) ≤ 32 + formLimit
+  unfolding passiveForm
+  few-variables =
+      let w = accepted-good p r accepted in
+      omega (arith, variables-counted p r w newWhereDiffers document-joins, w .counts .mostFields)
 
   sized : AllWidths (variableWidths p r)
   unfolding passiveForm
@@ -240,10 +247,10 @@ module _ (p r : List ℕ) (accepted : Accepted p r) (small : Small p r) (few : l
   pub form-words-fit : All (λ w. w < 2 ^ 32) (formWords p r)
   unfolding times
   form-words-fit =
-      words-fit Stage.Passive refl (variableWidths p r) sized few ns (omega arith) (λ i h. formed i (omega (arith, nodeCount-words ns)))
+      words-fit Stage.Passive refl (variableWidths p r) sized (omega (arith, few-variables)) ns (omega arith) (λ i h. formed i (omega (arith, nodeCount-words ns)))
 
   pub condition-words-fit : All (λ w. w < 2 ^ 32) (conditionWords p r)
   unfolding times
   condition-words-fit =
-      words-fit Stage.Condition refl (variableWidths p r) sized few (conditionOf (formWords p r)) (omega (arith, length-built (formWords p r), nodeCount-words ns))
+      words-fit Stage.Condition refl (variableWidths p r) sized (omega (arith, few-variables)) (conditionOf (formWords p r)) (omega (arith, length-built (formWords p r), nodeCount-words ns))
       (entries-formed (formWords p r) (variableWidths p r) (omega (arith, some, nodeCount-words ns)) formed)
