@@ -1,18 +1,18 @@
 -- What holds at every place below a number, and of every element of a list. Assumes nothing.
-use Prim.Native.Nat.{ℕ, zero, suc, _<_, _≤_}
-use native.Mathlib.Nat.{not-suc-le-zero, le-of-suc-le-suc, eq-or-lt-of-le, lt-of-lt-of-le}
+use Prim.Native.Nat.{ℕ, zero, suc, _<_, _≤_, suc-le-suc}
+use native.Mathlib.Nat.{not-suc-le-zero, le-of-suc-le-suc, eq-or-lt-of-le, lt-of-lt-of-le, zero-lt-suc}
 use native.Mathlib.Omega.{arith}
 use mathlib.Core.Path.{_≡_, refl, sym, _∙_}
 use mathlib.Core.Bool.{Bool, true, false}
 use mathlib.Core.Logic.{_⊎_, inl, inr}
 use mathlib.Core.List.{List, [], _∷_, _++_}
 use lib.Dec.{eqb, ltb}
-use lib.ListN.{getD, List·getD-eq-default}
-use borrow.Author.Tests.{eq-eqb, lt-ltb}
+use lib.ListN.{getD, length, List·getD-eq-default}
+use borrow.Author.Tests.{eq-eqb, lt-ltb, ltb-true, ltb-false}
 use Rattle.model.specs.Lists.{if_then_else_, build, each, every, exists, those, times, among}
 use Rattle.model.specs.Tables.{placed, ordered}
 use Rattle.model.proofs.Booleans.{both-true}
-use Rattle.model.proofs.Lists.{length-build, build-at}
+use Rattle.model.proofs.Lists.{made, length-build, build-at}
 
 -- ---- places
 
@@ -52,11 +52,33 @@ from-below P step i = step i (upTo i)
     upTo zero j h = absurd (not-suc-le-zero h)
     upTo (suc n) j h = step j (λ m k. upTo n m (lt-of-lt-of-le k (le-of-suc-le-suc h)))
 
+-- two lists made front to back, whose elements are related wherever those before them are; past their ends there are a and b
+module _ {A B : Type 0} (f : List A → ℕ → A) (g : List B → ℕ → B) (R : A → B → Type 0) (a : A) (b : B) (past : R a b)
+    (next : (xs : List A) (ys : List B) (i : ℕ) → ((j : ℕ) → R (getD xs j a) (getD ys j b)) → R (f xs i) (g ys i)) where
+  related-before : (n : ℕ) → ((j : ℕ) → j < n → R (made f j) (made g j)) → (j : ℕ) → R (getD (build f n) j a) (getD (build g n) j b)
+  related-before n before j = go (ltb j n) refl
+    where
+      go : (q : Bool) → ltb j n ≡ q → R (getD (build f n) j a) (getD (build g n) j b)
+      go true e = let h = ltb-true j n e in rw (build-at f n j a h, build-at g n j b h) (before j h)
+      go false e = let h = ltb-false j n e in rw (build-past f n j a h, build-past g n j b h) past
+
+  related-made : (i : ℕ) → R (made f i) (made g i)
+  unfolding made
+  related-made = from-below (λ i. R (made f i) (made g i)) λ i before. next (build f i) (build g i) i (related-before i before)
+
+  pub build-related : (n j : ℕ) → R (getD (build f n) j a) (getD (build g n) j b)
+  build-related n = related-before n (λ j h. related-made j)
+
 -- ---- elements
 
 abbrev pub All : {A : Type 0} → (A → Type 0) → List A → Type 0
 All P [] = Unit {0}
 All P (x ∷ xs) = P x × All P xs
+
+-- what holds at every place holds of every element
+pub all-places : {A : Type 0} (P : A → Type 0) (d : A) (xs : List A) → ((i : ℕ) → i < length xs → P (getD xs i d)) → All P xs
+all-places P d [] h = tt
+all-places P d (x ∷ xs) h = (h zero (zero-lt-suc _), all-places P d xs (λ i k. h (suc i) (suc-le-suc k)))
 
 module _ (P : ℕ → Type 0) where
   pub all-append : (xs ys : List ℕ) → All P xs → All P ys → All P (xs ++ ys)

@@ -40,5 +40,6 @@ pub mod Evaluation
 pub mod Formed
 pub mod EntrySorts
 pub mod Accepts
+pub mod EvaluatedFits
 -- demand 3
 pub mod Demands
