@@ -171,6 +171,10 @@ module _ (entries ws valuation : List ℕ) where
   abbrev pub bitsOfEntry : ℕ → Bits
   bitsOfEntry i = getD (evaluated entries (bitsIn ws valuation)) i (ofWidth 0 0)
 
+  pub length-evaluated : length (evaluated entries (bitsIn ws valuation)) ≡ nodeCount entries
+  unfolding evaluated
+  length-evaluated = length-build (λ before i. entryBits (bitsIn ws valuation) before (plainNode entries i)) (nodeCount entries)
+
   pub entry-fits : AllWidths ws → Within ws valuation → (i : ℕ) → i < nodeCount entries
       → Fit (sort Stage.Condition ws (plainNode entries) i) (bitsOfEntry i)
   unfolding evaluated
@@ -188,11 +192,12 @@ module _ (entries ws valuation : List ℕ) where
 
 -- ---- what Evaluate accepts
 
-words-fit : {s : Sort} {x : Bits} → isFormed s ≡ true → Fit s x → (x .width < 2 ^ 32) × (x .number < 2 ^ 32)
-words-fit {s = Sort.Malformed} e h = absurd (false≢true e)
-words-fit {s = Sort.Value w} e h = (omega (arith, h .is .1 .wide), lt-of-lt-of-le (h .is .1 .below) (pow-mono (h .is .0 .1)))
-words-fit {s = Sort.Test} e h = (omega arith, omega arith)
-words-fit {s = Sort.Statement} e h = absurd (h .is)
+-- both words of an entry that is formed
+two-words : {s : Sort} {x : Bits} → isFormed s ≡ true → Fit s x → (x .width < 2 ^ 32) × (x .number < 2 ^ 32)
+two-words {s = Sort.Malformed} e h = absurd (false≢true e)
+two-words {s = Sort.Value w} e h = (omega (arith, h .is .1 .wide), lt-of-lt-of-le (h .is .1 .below) (pow-mono (h .is .0 .1)))
+two-words {s = Sort.Test} e h = (omega arith, omega arith)
+two-words {s = Sort.Statement} e h = absurd (h .is)
 
 all-bits : (P : ℕ → Type 0) (xs : List Bits) → All (λ x. P (x .width) × P (x .number)) xs → All P (bitsWords xs)
 unfolding bitsWords
@@ -200,10 +205,6 @@ all-bits P [] h = tt
 all-bits P (x ∷ xs) h = (h .0 .0, (h .0 .1, all-bits P xs (h .1)))
 
 module _ (entries ws valuation : List ℕ) (lent : ℕ) (c : Clear (evaluateRows entries ws valuation lent ++ (lateRow entries ws ∷ []))) where
-  length-evaluated : length (evaluated entries (bitsIn ws valuation)) ≡ nodeCount entries
-  unfolding evaluated
-  length-evaluated = length-build (λ before i. entryBits (bitsIn ws valuation) before (plainNode entries i)) (nodeCount entries)
-
   pub accepted-fits : (i : ℕ) → i < nodeCount entries → Fit (sort Stage.Condition ws (plainNode entries) i) (bitsOfEntry entries ws valuation i)
   unfolding Clear
   accepted-fits =
@@ -219,13 +220,14 @@ module _ (entries ws valuation : List ℕ) (lent : ℕ) (c : Clear (evaluateRows
       let formed = nodes-formed 17 Stage.Condition isTest entries ws (c .1 .1 .1 .1 .1 .0) in
       all-bits (λ w. w < 2 ^ 32) xs
       (all-places (λ x. (x .width < 2 ^ 32) × (x .number < 2 ^ 32)) (ofWidth 0 0) xs λ i h.
-      let k : i < nodeCount entries = omega (arith, length-evaluated) in words-fit (formed i k) (accepted-fits i k))
+      let k : i < nodeCount entries = omega (arith, length-evaluated entries ws valuation) in two-words (formed i k) (accepted-fits i k))
 
   -- the last entry's number is 0 or 1
   pub last-is-test : let xs = evaluated entries (bitsIn ws valuation) in getD xs (length xs - 1) (ofWidth 0 0) .number ≤ 1
   unfolding Clear
   last-is-test =
       let n = nodeCount entries in
-      let some = leb-true 1 n (both-true (leb 1 n) (leb n entryLimit) (both-true (eqb (length entries % 4) 0) (within 1 entryLimit n) (c .0 0 (omega arith)) .1) .0) in
+      let count = both-true (eqb (length entries % 4) 0) (within 1 entryLimit n) (c .0 0 (omega arith)) .1 in
+      let some = leb-true 1 n (both-true (leb 1 n) (leb n entryLimit) count .0) in
       let end = nodes-end 17 Stage.Condition isTest entries ws (c .1 .1 .1 .1 .1 .0) (n - 1) (omega arith) in
-      rw length-evaluated (test-fit end (accepted-fits (n - 1) (omega arith)) .1)
+      rw (length-evaluated entries ws valuation) (test-fit end (accepted-fits (n - 1) (omega arith)) .1)
