@@ -52,22 +52,23 @@ from-below P step i = step i (upTo i)
     upTo zero j h = absurd (not-suc-le-zero h)
     upTo (suc n) j h = step j (λ m k. upTo n m (lt-of-lt-of-le k (le-of-suc-le-suc h)))
 
--- two lists made front to back, whose elements are related wherever those before them are; past their ends there are a and b
-module _ {A B : Type 0} (f : List A → ℕ → A) (g : List B → ℕ → B) (R : A → B → Type 0) (a : A) (b : B) (past : R a b)
-    (next : (xs : List A) (ys : List B) (i : ℕ) → ((j : ℕ) → R (getD xs j a) (getD ys j b)) → R (f xs i) (g ys i)) where
-  related-before : (n : ℕ) → ((j : ℕ) → j < n → R (made f j) (made g j)) → (j : ℕ) → R (getD (build f n) j a) (getD (build g n) j b)
-  related-before n before j = go (ltb j n) refl
+-- What relates the elements of two lists made front to back: it relates each two where it does all before them, and so what stands past
+-- the ends.
+module _ {A B : Type 0} (f : List A → ℕ → A) (g : List B → ℕ → B) (R : A → B → Type 0) (a : A) (b : B) (past : R a b) where
+  build-before-related : (n x : ℕ) → ((j : ℕ) → j < n → R (made f j) (made g j)) → R (getD (build f n) x a) (getD (build g n) x b)
+  build-before-related n x h = go (ltb x n) refl
     where
-      go : (q : Bool) → ltb j n ≡ q → R (getD (build f n) j a) (getD (build g n) j b)
-      go true e = let h = ltb-true j n e in rw (build-at f n j a h, build-at g n j b h) (before j h)
-      go false e = let h = ltb-false j n e in rw (build-past f n j a h, build-past g n j b h) past
+      go : (q : Bool) → ltb x n ≡ q → R (getD (build f n) x a) (getD (build g n) x b)
+      go true e = let k = ltb-true x n e in rw (build-at f n x a k, build-at g n x b k) (h x k)
+      go false e = let k = ltb-false x n e in rw (build-past f n x a k, build-past g n x b k) past
 
-  related-made : (i : ℕ) → R (made f i) (made g i)
-  unfolding made
-  related-made = from-below (λ i. R (made f i) (made g i)) λ i before. next (build f i) (build g i) i (related-before i before)
+  module _ (next : (xs : List A) (ys : List B) (i : ℕ) → ((x : ℕ) → R (getD xs x a) (getD ys x b)) → R (f xs i) (g ys i)) where
+    made-related : (i : ℕ) → R (made f i) (made g i)
+    unfolding made
+    made-related = from-below (λ i. R (made f i) (made g i)) λ i h. next (build f i) (build g i) i (λ x. build-before-related i x h)
 
-  pub build-related : (n j : ℕ) → R (getD (build f n) j a) (getD (build g n) j b)
-  build-related n = related-before n (λ j h. related-made j)
+    pub build-related : (n x : ℕ) → R (getD (build f n) x a) (getD (build g n) x b)
+    build-related n x = build-before-related n x (λ j _. made-related j)
 
 -- ---- elements
 
