@@ -46,8 +46,16 @@ module _ (number : ℕ) (stage : Stage) (ends : Sort → Bool) (form ws : List �
       go true e = end j (eqb-true (suc j) (nodeCount form) e)
       go false e = refl
 
-  nodes-formed : WellBefore (nodesRow number stage ends form ws) (nodeCount form) → (i : ℕ) → i < nodeCount form → isFormed (sortThere i) ≡ true
-  nodes-formed well i h = both-true (isFormed (sortThere i)) _ (rw (sorts-at stage ws (plainNode form) (nodeCount form) i h) at (well i h)) .0
+  -- and what they say of the nodes
+  module _ (well : WellBefore (nodesRow number stage ends form ws) (nodeCount form)) where
+    both-well : (i : ℕ) → i < nodeCount form → (isFormed (sortThere i) ≡ true) × ((if eqb (suc i) (nodeCount form) then ends (sortThere i) else true) ≡ true)
+    both-well i h = both-true (isFormed (sortThere i)) _ (rw (sorts-at stage ws (plainNode form) (nodeCount form) i h) at (well i h))
+
+    pub nodes-formed : (i : ℕ) → i < nodeCount form → isFormed (sortThere i) ≡ true
+    nodes-formed i h = both-well i h .0
+
+    pub nodes-end : (i : ℕ) → suc i ≡ nodeCount form → ends (sortThere i) ≡ true
+    nodes-end i e = rw (eq-eqb (suc i) (nodeCount form) e) at (both-well i (omega arith) .1)
 
 widths-well : (ws : List ℕ) → AllWidths ws → WellBefore (widthRow ws) (length ws)
 widths-well ws all j h = rw (le-leb 1 (word ws j) (all j h .0), le-leb (word ws j) 32 (all j h .1))

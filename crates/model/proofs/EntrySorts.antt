@@ -83,6 +83,12 @@ value-kept (Sort.Value w) h = refl
 value-kept Sort.Test h = refl
 value-kept Sort.Statement h = cc
 
+pub value-is : (s : Sort) → isValue s ≡ true → s ≡ Sort.Value (widthOf s)
+value-is Sort.Malformed h = cc
+value-is (Sort.Value w) h = refl
+value-is Sort.Test h = cc
+value-is Sort.Statement h = cc
+
 pub test-is : (s : Sort) → isTest s ≡ true → s ≡ Sort.Test
 test-is Sort.Malformed h = cc
 test-is (Sort.Value w) h = cc

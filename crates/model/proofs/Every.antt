@@ -1,13 +1,13 @@
 -- What holds at every place below a number, and of every element of a list. Assumes nothing.
-use Prim.Native.Nat.{ℕ, zero, suc, _<_, _≤_}
-use native.Mathlib.Nat.{not-suc-le-zero, le-of-suc-le-suc, eq-or-lt-of-le, lt-of-lt-of-le}
+use Prim.Native.Nat.{ℕ, zero, suc, _<_, _≤_, suc-le-suc}
+use native.Mathlib.Nat.{not-suc-le-zero, le-of-suc-le-suc, eq-or-lt-of-le, lt-of-lt-of-le, zero-lt-suc}
 use native.Mathlib.Omega.{arith}
-use mathlib.Core.Path.{_≡_, refl, sym, subst, _∙_}
+use mathlib.Core.Path.{_≡_, refl, sym, _∙_}
 use mathlib.Core.Bool.{Bool, true, false}
 use mathlib.Core.Logic.{_⊎_, inl, inr}
 use mathlib.Core.List.{List, [], _∷_, _++_}
 use lib.Dec.{eqb, ltb}
-use lib.ListN.{getD, List·getD-eq-default}
+use lib.ListN.{getD, length, List·getD-eq-default}
 use borrow.Author.Tests.{eq-eqb, lt-ltb, ltb-true, ltb-false}
 use Rattle.model.specs.Lists.{if_then_else_, build, each, every, exists, those, times, among}
 use Rattle.model.specs.Tables.{placed, ordered}
@@ -52,24 +52,42 @@ from-below P step i = step i (upTo i)
     upTo zero j h = absurd (not-suc-le-zero h)
     upTo (suc n) j h = step j (λ m k. upTo n m (lt-of-lt-of-le k (le-of-suc-le-suc h)))
 
--- What every element of a list made front to back has: each has it where all before it do, and so does what stands past the end.
+-- What relates the elements of two lists made front to back: it relates each two where it does all before them, and so what stands past
+-- the ends.
+module _ {A B : Type 0} (f : List A → ℕ → A) (g : List B → ℕ → B) (R : A → B → Type 0) (a : A) (b : B) (past : R a b) where
+  build-before-related : (n x : ℕ) → ((j : ℕ) → j < n → R (made f j) (made g j)) → R (getD (build f n) x a) (getD (build g n) x b)
+  build-before-related n x h = go (ltb x n) refl
+    where
+      go : (q : Bool) → ltb x n ≡ q → R (getD (build f n) x a) (getD (build g n) x b)
+      go true e = let k = ltb-true x n e in rw (build-at f n x a k, build-at g n x b k) (h x k)
+      go false e = let k = ltb-false x n e in rw (build-past f n x a k, build-past g n x b k) past
+
+  module _ (next : (xs : List A) (ys : List B) (i : ℕ) → ((x : ℕ) → R (getD xs x a) (getD ys x b)) → R (f xs i) (g ys i)) where
+    made-related : (i : ℕ) → R (made f i) (made g i)
+    unfolding made
+    made-related = from-below (λ i. R (made f i) (made g i)) λ i h. next (build f i) (build g i) i (λ x. build-before-related i x h)
+
+    pub build-related : (n x : ℕ) → R (getD (build f n) x a) (getD (build g n) x b)
+    build-related n x = build-before-related n x (λ j _. made-related j)
+
+-- the same of one list
 module _ {A : Type 0} (f : List A → ℕ → A) (P : A → Type 0) (d : A) (past : P d) where
   pub build-has : (n x : ℕ) → ((j : ℕ) → j < n → P (made f j)) → P (getD (build f n) x d)
-  build-has n x h = go (ltb x n) refl
-    where
-      go : (b : Bool) → ltb x n ≡ b → P (getD (build f n) x d)
-      go true e = let k = ltb-true x n e in subst P (sym (build-at f n x d k)) (h x k)
-      go false e = subst P (sym (build-past f n x d (ltb-false x n e))) past
+  build-has n x h = build-before-related f f (λ x _. P x) d d past n x h
 
   pub made-has : ((before : List A) (i : ℕ) → ((x : ℕ) → P (getD before x d)) → P (f before i)) → (i : ℕ) → P (made f i)
-  unfolding made
-  made-has step = from-below (λ i. P (made f i)) (λ i h. step (build f i) i (λ x. build-has i x h))
+  made-has step = made-related f f (λ x _. P x) d d past (λ xs _ i h. step xs i h)
 
 -- ---- elements
 
 abbrev pub All : {A : Type 0} → (A → Type 0) → List A → Type 0
 All P [] = Unit {0}
 All P (x ∷ xs) = P x × All P xs
+
+-- what holds at every place holds of every element
+pub all-places : {A : Type 0} (P : A → Type 0) (d : A) (xs : List A) → ((i : ℕ) → i < length xs → P (getD xs i d)) → All P xs
+all-places P d [] h = tt
+all-places P d (x ∷ xs) h = (h zero (zero-lt-suc _), all-places P d xs (λ i k. h (suc i) (suc-le-suc k)))
 
 module _ (P : ℕ → Type 0) where
   pub all-append : (xs ys : List ℕ) → All P xs → All P ys → All P (xs ++ ys)

@@ -13,7 +13,7 @@ pub record Sized (x : Bits) (w : ℕ) : Type 0 where
   pub wide : x .width ≡ w
   pub below : x .number < 2 ^ w
 
-one-of : (b : Bool) {x y : Bits} {w : ℕ} → Sized x w → Sized y w → Sized (if b then x else y) w
+pub one-of : (b : Bool) {x y : Bits} {w : ℕ} → Sized x w → Sized y w → Sized (if b then x else y) w
 one-of true h k = h
 one-of false h k = k
 

@@ -96,6 +96,17 @@ entry-allowed m h = go (pipelineOnly m) h
     go true e = e
     go false e = refl
 
+-- the kind that a condition's entry has, if it has one, is one that it may have
+pub kindOf-allowed : (m : ℕ) → allowed Stage.Condition (numberOf (kindOf Stage.Condition m)) ≡ true
+unfolding times
+kindOf-allowed m = go (allowed Stage.Condition m) refl (kind-or-unknown kinds m)
+  where
+    go : (b : Bool) → allowed Stage.Condition m ≡ b → (kindIn kinds m ≡ Kind.Unknown) ⊎ (m ≡ numberOf (kindIn kinds m))
+        → allowed Stage.Condition (numberOf (if b then kindIn kinds m else Kind.Unknown)) ≡ true
+    go false e s = refl
+    go true e (inl u) = rw u refl
+    go true e (inr u) = rw (← u) e
+
 pub binary-allowed : (o : Op) → allowed Stage.Condition (numberOf (Kind.Binary o)) ≡ true
 unfolding times
 binary-allowed Op.Sum = refl

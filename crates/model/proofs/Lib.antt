@@ -42,5 +42,6 @@ pub mod Formed
 pub mod EntrySorts
 pub mod Accepts
 pub mod WordsFit
+pub mod EvaluatedFits
 -- demand 3
 pub mod Demands
