@@ -1,8 +1,9 @@
 -- The condition's entries: three a node, and the last. Assumes nothing.
 use Prim.Native.Nat.{ℕ, _+_, _*_, _-_, _<_, _≤_}
+use native.Mathlib.Nat.{add-zero}
 use native.Mathlib.Omega.{arith}
 use mathlib.Core.Bool.{Bool, true, false}
-use mathlib.Core.Path.{_≡_, refl, ap, _∙_}
+use mathlib.Core.Path.{_≡_, refl, sym, ap, _∙_}
 use mathlib.Core.List.{List, [], _∷_, _++_}
 use lib.Dec.{eqb, ltb}
 use lib.ListN.{getD, length, length-append, List·getD-append}
@@ -39,34 +40,48 @@ pub expression-entry : (k : Kind) (i a b c : ℕ) → allowed Stage.Condition (n
 unfolding entriesOf
 expression-entry k i a b c h = rw (entry-below (numberOf k) h, kindIn-number k)
 
+-- each node owns three entries
+pub record Owned (nodes entries : ℕ → Node) (n : ℕ) : Type 0 where
+  pub owns : (i r : ℕ) → i < n → r < 3 → entries (3 * i + r) ≡ getD (entriesOf i (nodes i)) r no
+
+-- those of a node that is known: each, and the first
+module _ {nodes entries : ℕ → Node} {n : ℕ} (owned : Owned nodes entries n) where
+  pub each-entry : (r : ℕ) {i : ℕ} {m : Node} → r < 3 → i < n → nodes i ≡ m → entries (3 * i + r) ≡ getD (entriesOf i m) r no
+  each-entry r {i} h l e = owned .owns i r l h ∙ ap (λ (m : Node). getD (entriesOf i m) r no) e
+
+  pub first-entry : {i : ℕ} {m : Node} → i < n → nodes i ≡ m → entries (3 * i) ≡ getD (entriesOf i m) 0 no
+  first-entry {i} l e = ap entries (sym (add-zero (3 * i))) ∙ each-entry 0 (omega arith) l e
+
 module _ (ns : List Node) where
   -- three entries a node
-  abbrev pub owned : List Node
-  owned = joined (λ i. entriesOf i (plainNode (words ns) i)) (length ns)
+  abbrev threes : List Node
+  threes = joined (λ i. entriesOf i (plainNode (words ns) i)) (length ns)
 
-  pub conditionOf-words : conditionOf (words ns) ≡ owned ++ (notEntry (3 * length ns - 1) ∷ [])
+  pub conditionOf-words : conditionOf (words ns) ≡ threes ++ (notEntry (3 * length ns - 1) ∷ [])
   unfolding conditionOf
   conditionOf-words = rw (nodeCount-words ns)
 
-  length-owned : length owned ≡ 3 * length ns
-  length-owned = length-joined (λ i. entriesOf i (plainNode (words ns) i)) 3 (λ i. entriesOf-length i (plainNode (words ns) i)) (length ns)
+  length-threes : length threes ≡ 3 * length ns
+  length-threes = length-joined (λ i. entriesOf i (plainNode (words ns) i)) 3 (λ i. entriesOf-length i (plainNode (words ns) i)) (length ns)
 
   pub length-condition : length (conditionOf (words ns)) ≡ 3 * length ns + 1
-  length-condition = ap length conditionOf-words ∙ omega (arith, length-append owned (notEntry (3 * length ns - 1) ∷ []), length-owned)
+  length-condition = ap length conditionOf-words ∙ omega (arith, length-append threes (notEntry (3 * length ns - 1) ∷ []), length-threes)
 
   -- what stands at entry j
   abbrev pub entryAt : ℕ → Node
   entryAt = plainNode (words (conditionOf (words ns)))
 
-  entry-word : (j : ℕ) → j ≤ 3 * length ns → entryAt j ≡ getD (owned ++ (notEntry (3 * length ns - 1) ∷ [])) j no
+  entry-word : (j : ℕ) → j ≤ 3 * length ns → entryAt j ≡ getD (threes ++ (notEntry (3 * length ns - 1) ∷ [])) j no
   entry-word j h =
       plainNode-words (conditionOf (words ns)) j no (omega (arith, length-condition)) ∙ ap (λ (es : List Node). getD es j no) conditionOf-words
 
-  pub owned-entry : (i r : ℕ) → i < length ns → r < 3 → entryAt (3 * i + r) ≡ getD (entriesOf i (plainNode (words ns) i)) r no
-  owned-entry i r l h =
-      entry-word (3 * i + r) (omega arith)
-      ∙ List·getD-append owned (notEntry (3 * length ns - 1) ∷ []) no (3 * i + r) (omega (arith, length-owned))
-      ∙ joined-at (λ i. entriesOf i (plainNode (words ns) i)) 3 (λ i. entriesOf-length i (plainNode (words ns) i)) (length ns) i r no l h
+  pub owned-entries : Owned (plainNode (words ns)) entryAt (length ns)
+  owned-entries = record {
+    owns = λ i r l h.
+        entry-word (3 * i + r) (omega arith)
+        ∙ List·getD-append threes (notEntry (3 * length ns - 1) ∷ []) no (3 * i + r) (omega (arith, length-threes))
+        ∙ joined-at (λ i. entriesOf i (plainNode (words ns) i)) 3 (λ i. entriesOf-length i (plainNode (words ns) i)) (length ns) i r no l h;
+  }
 
   pub last-entry : entryAt (3 * length ns) ≡ notEntry (3 * length ns - 1)
-  last-entry = entry-word (3 * length ns) (omega arith) ∙ getD-at owned (notEntry (3 * length ns - 1)) [] no (3 * length ns) length-owned
+  last-entry = entry-word (3 * length ns) (omega arith) ∙ getD-at threes (notEntry (3 * length ns - 1)) [] no (3 * length ns) length-threes

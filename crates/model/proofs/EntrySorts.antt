@@ -23,7 +23,7 @@ use Rattle.model.proofs.Lists.{made, length-each, each-at}
 use Rattle.model.proofs.Every.{build-past, from-below}
 use Rattle.model.proofs.KindNumbers.{kind-or-unknown, entry-below, binary-allowed, compare-allowed, connect-allowed}
 use Rattle.model.proofs.NodeList.{nodeCount-words, plainNode-words}
-use Rattle.model.proofs.Entries.{overEntries, expression-entry, length-condition, entryAt, owned-entry, last-entry}
+use Rattle.model.proofs.Entries.{overEntries, expression-entry, length-condition, entryAt, Owned, each-entry, first-entry, owned-entries, last-entry}
 use Rattle.model.proofs.Formed.{step, sort, sort-before, node-sort}
 
 -- ---- what a formed node is
@@ -192,7 +192,7 @@ zeros-kept k m h = rw (zero-kept on (roles k .a) (m .a), zero-kept on (roles k .
 -- ---- entries
 
 module _ (ws : List ℕ) (nodes entries : ℕ → Node) (n : ℕ)
-    (owned : (i r : ℕ) → i < n → r < 3 → entries (3 * i + r) ≡ getD (entriesOf i (nodes i)) r no) where
+    (owned : Owned nodes entries n) where
   abbrev pub nodeSort : ℕ → Sort
   nodeSort = sort Stage.Passive ws nodes
 
@@ -222,12 +222,6 @@ module _ (ws : List ℕ) (nodes entries : ℕ → Node) (n : ℕ)
   connect-sort : (o : Connective) (j : ℕ) {x y : ℕ} → x < j → y < j → sortOfEntry x ≡ Sort.Test → sortOfEntry y ≡ Sort.Test
       → entries j ≡ node (numberOf (Kind.Connect o)) x y 0 → sortOfEntry j ≡ Sort.Test
   connect-sort o j {x} {y} h k s t e = node-sort Stage.Condition ws entries (Kind.Connect o) (connect-allowed o) refl e ∙ rw (read j x h s, read j y k t)
-
-  entry-of : {i : ℕ} {m : Node} (r : ℕ) → r < 3 → i < n → nodes i ≡ m → entries (3 * i + r) ≡ getD (entriesOf i m) r no
-  entry-of {i} r h l e = owned i r l h ∙ ap (λ (m : Node). getD (entriesOf i m) r no) e
-
-  first-of : {i : ℕ} {m : Node} → i < n → nodes i ≡ m → entries (3 * i) ≡ getD (entriesOf i m) 0 no
-  first-of {i} l e = ap entries (sym (add-zero (3 * i))) ∙ entry-of 0 (omega arith) l e
 
   -- node i over the entries of the nodes before it
   module _ (i : ℕ) (l : i < n) (before : (x : ℕ) → x < i → Owns x) where
@@ -273,11 +267,11 @@ module _ (ws : List ℕ) (nodes entries : ℕ → Node) (n : ℕ)
           let value : (x : ℕ) → isValue (own x) ≡ true → entryOwn (3 * x) ≡ own x = λ x v. child-kept x (value-formed (own x) v) (value-kept (own x) v) in
           let test : (x : ℕ) → isTest (own x) ≡ true → entryOwn (3 * x) ≡ own x = λ x t. child-kept x (rw (test-is (own x) t)) (rw (test-is (own x) t)) in
           let zeros = zeros-kept k m (known .zeros) in
-          let e = first-of l (known .is) ∙ expression-entry k i (m .a) (m .b) (m .c) h in
+          let e = first-entry owned l (known .is) ∙ expression-entry k i (m .a) (m .b) (m .c) h in
           record {
             first = node-sort Stage.Condition ws entries k h zeros e ∙ kept ws own entryOwn on value test k (m .a) (m .b) (m .c) h (known .good) ∙ ap entrySort (sym its-sort);
-            second = no-sort (3 * i + 1) (entry-of 1 (omega arith) l (known .is) ∙ rw (entry-below (numberOf k) h));
-            third = no-sort (3 * i + 2) (entry-of 2 (omega arith) l (known .is) ∙ rw (entry-below (numberOf k) h));
+            second = no-sort (3 * i + 1) (each-entry owned 1 (omega arith) l (known .is) ∙ rw (entry-below (numberOf k) h));
+            third = no-sort (3 * i + 2) (each-entry owned 2 (omega arith) l (known .is) ∙ rw (entry-below (numberOf k) h));
           }
 
     -- a statement's entries are tests
@@ -288,8 +282,8 @@ module _ (ws : List ℕ) (nodes entries : ℕ → Node) (n : ℕ)
     skip-owns : Is Kind.Skip → Owns i
     unfolding entriesOf
     skip-owns h =
-        owns (its-sort Kind.Skip h) (truth-sort (3 * i) 1 (omega arith) (first-of l (h .is)))
-        (no-sort (3 * i + 1) (entry-of 1 (omega arith) l (h .is))) (no-sort (3 * i + 2) (entry-of 2 (omega arith) l (h .is)))
+        owns (its-sort Kind.Skip h) (truth-sort (3 * i) 1 (omega arith) (first-entry owned l (h .is)))
+        (no-sort (3 * i + 1) (each-entry owned 1 (omega arith) l (h .is))) (no-sort (3 * i + 2) (each-entry owned 2 (omega arith) l (h .is)))
 
     assume-owns : Is Kind.Assume → Owns i
     unfolding entriesOf
@@ -297,8 +291,8 @@ module _ (ws : List ℕ) (nodes entries : ℕ → Node) (n : ℕ)
         let q = only-formed (isTest (own (nodes i .a))) Sort.Statement (h .good) .0 in
         let x = test-child (nodes i .a) q in
         owns (its-sort Kind.Assume h ∙ rw q)
-        (connect-sort Connective.And (3 * i) (omega arith) (omega arith) (x .1) (x .1) (first-of l (h .is)))
-        (no-sort (3 * i + 1) (entry-of 1 (omega arith) l (h .is))) (no-sort (3 * i + 2) (entry-of 2 (omega arith) l (h .is)))
+        (connect-sort Connective.And (3 * i) (omega arith) (omega arith) (x .1) (x .1) (first-entry owned l (h .is)))
+        (no-sort (3 * i + 1) (each-entry owned 1 (omega arith) l (h .is))) (no-sort (3 * i + 2) (each-entry owned 2 (omega arith) l (h .is)))
 
     assert-owns : Is Kind.Assert → Owns i
     unfolding entriesOf
@@ -306,8 +300,8 @@ module _ (ws : List ℕ) (nodes entries : ℕ → Node) (n : ℕ)
         let q = only-formed (isTest (own (nodes i .a))) Sort.Statement (h .good) .0 in
         let x = test-child (nodes i .a) q in
         owns (its-sort Kind.Assert h ∙ rw q)
-        (connect-sort Connective.And (3 * i) (omega arith) (omega arith) (x .1) (x .1) (first-of l (h .is)))
-        (no-sort (3 * i + 1) (entry-of 1 (omega arith) l (h .is))) (not-sort (3 * i + 2) (omega arith) (x .1) (entry-of 2 (omega arith) l (h .is)))
+        (connect-sort Connective.And (3 * i) (omega arith) (omega arith) (x .1) (x .1) (first-entry owned l (h .is)))
+        (no-sort (3 * i + 1) (each-entry owned 1 (omega arith) l (h .is))) (not-sort (3 * i + 2) (omega arith) (x .1) (each-entry owned 2 (omega arith) l (h .is)))
 
     sequence-owns : Is Kind.Sequence → Owns i
     unfolding entriesOf
@@ -316,11 +310,11 @@ module _ (ws : List ℕ) (nodes entries : ℕ → Node) (n : ℕ)
         let both = both-true (isStatement (own (nodes i .a))) (isStatement (own (nodes i .b))) q in
         let x = statement-child (nodes i .a) (both .0) in
         let y = statement-child (nodes i .b) (both .1) in
-        let second = connect-sort Connective.And (3 * i + 1) (omega arith) (omega arith) (x .1) (y .2) (entry-of 1 (omega arith) l (h .is)) in
+        let second = connect-sort Connective.And (3 * i + 1) (omega arith) (omega arith) (x .1) (y .2) (each-entry owned 1 (omega arith) l (h .is)) in
         owns (its-sort Kind.Sequence h ∙ rw q)
-        (connect-sort Connective.And (3 * i) (omega arith) (omega arith) (x .1) (y .1) (first-of l (h .is)))
+        (connect-sort Connective.And (3 * i) (omega arith) (omega arith) (x .1) (y .1) (first-entry owned l (h .is)))
         second
-        (connect-sort Connective.Or (3 * i + 2) (omega arith) (omega arith) (x .2) second (entry-of 2 (omega arith) l (h .is)))
+        (connect-sort Connective.Or (3 * i + 2) (omega arith) (omega arith) (x .2) second (each-entry owned 2 (omega arith) l (h .is)))
 
     choice-owns : Is Kind.Choice → Owns i
     unfolding entriesOf
@@ -330,9 +324,9 @@ module _ (ws : List ℕ) (nodes entries : ℕ → Node) (n : ℕ)
         let x = statement-child (nodes i .a) (both .0) in
         let y = statement-child (nodes i .b) (both .1) in
         owns (its-sort Kind.Choice h ∙ rw q)
-        (connect-sort Connective.Or (3 * i) (omega arith) (omega arith) (x .1) (y .1) (first-of l (h .is)))
-        (no-sort (3 * i + 1) (entry-of 1 (omega arith) l (h .is)))
-        (connect-sort Connective.Or (3 * i + 2) (omega arith) (omega arith) (x .2) (y .2) (entry-of 2 (omega arith) l (h .is)))
+        (connect-sort Connective.Or (3 * i) (omega arith) (omega arith) (x .1) (y .1) (first-entry owned l (h .is)))
+        (no-sort (3 * i + 1) (each-entry owned 1 (omega arith) l (h .is)))
+        (connect-sort Connective.Or (3 * i + 2) (omega arith) (omega arith) (x .2) (y .2) (each-entry owned 2 (omega arith) l (h .is)))
 
     known-owns : (k : Kind) → Is k → Owns i
     unfolding times
@@ -423,9 +417,8 @@ module _ (form : List ℕ) where
   built-entry : (j : ℕ) → builtAt j ≡ entryAt nodesIn j
   built-entry j = ap (λ (es : List Node). plainNode (words es) j) (sym condition-in)
 
-  built-owned : (i r : ℕ) → i < nodeCount form → r < 3 → builtAt (3 * i + r) ≡ getD (entriesOf i (plainNode form i)) r no
-  built-owned i r h k =
-      built-entry (3 * i + r) ∙ owned-entry nodesIn i r (rw length-in h) k ∙ ap (λ (m : Node). getD (entriesOf i m) r no) (node-in i h)
+  built-owned : Owned (plainNode form) builtAt (nodeCount form)
+  built-owned = record { owns = λ i r h k. built-entry (3 * i + r) ∙ each-entry (owned-entries nodesIn) r k (rw length-in h) (node-in i h) }
 
   built-last : builtAt (3 * nodeCount form) ≡ notEntry (3 * nodeCount form - 1)
   built-last = built-entry (3 * nodeCount form) ∙ rw length-in at (last-entry nodesIn)

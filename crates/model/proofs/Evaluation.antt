@@ -1,6 +1,5 @@
 -- The condition's words, evaluated in order, say what the passive tree says. Assumes nothing.
 use Prim.Native.Nat.{ℕ, suc, _+_, _*_, _-_, _<_, _≤_}
-use native.Mathlib.Nat.{add-zero}
 use native.Mathlib.Omega.{arith}
 use mathlib.Core.Bool.{Bool, true, false, not, _&&_, _||_}
 use mathlib.Core.Path.{_≡_, refl, sym, ap, ap₂, subst, _∙_}
@@ -13,7 +12,7 @@ use Rattle.model.specs.Nodes.{numberOf, allowed}
 use Rattle.model.specs.Trees.{Val, Test, Bits, ofWidth, binaryBits, complementBits, sliceBits, joinBits, compareBits, connected, bitsOf, truthOf, bitsIn}
 use Rattle.model.specs.Passive.{Passive, Equation, _then_}
 use Rattle.model.specs.Emit.{emit, top}
-use Rattle.model.specs.Condition.{nodeCount, no, notEntry, entriesOf, conditionOf, bit, isOn, bitsBy, entryBits, evaluated}
+use Rattle.model.specs.Condition.{nodeCount, notEntry, entriesOf, conditionOf, bit, isOn, bitsBy, entryBits, evaluated}
 use Rattle.model.specs.Walk.{equal, goesOn, goesWrong}
 use Rattle.model.specs.Calls.{conditionTruth}
 use Rattle.model.specs.declared.Connective.{Connective}
@@ -22,7 +21,7 @@ use Rattle.model.specs.declared.Stage.{Stage}
 use Rattle.model.proofs.Lists.{made, build-at, build-last}
 use Rattle.model.proofs.KindNumbers.{kindOf-number, binary-allowed, compare-allowed, connect-allowed}
 use Rattle.model.proofs.NodeList.{nodeCount-words, SpansValue, SpansTest, Tied, tied-order, SpansStatement, gives-statement, emitted-spans, equality}
-use Rattle.model.proofs.Entries.{overEntries, expression-entry, length-condition, entryAt, owned-entry, last-entry}
+use Rattle.model.proofs.Entries.{overEntries, expression-entry, length-condition, entryAt, Owned, each-entry, first-entry, owned-entries, last-entry}
 
 -- ---- bits of tests
 
@@ -85,17 +84,10 @@ module _ (vals : ℕ → Bits) (entries : ℕ → Node) where
 
   -- ---- the entries of the nodes, of which each owns three
 
-  module _ (nodes : ℕ → Node) (n : ℕ) (owned : (i r : ℕ) → i < n → r < 3 → entries (3 * i + r) ≡ getD (entriesOf i (nodes i)) r no) where
-    -- an entry of a node that is known: the first, and each
-    each-entry : (r : ℕ) {i : ℕ} {m : Node} → r < 3 → i < n → nodes i ≡ m → entries (3 * i + r) ≡ getD (entriesOf i m) r no
-    each-entry r {i} h l e = owned i r l h ∙ ap (λ (m : Node). getD (entriesOf i m) r no) e
-
-    first-entry : {i : ℕ} {m : Node} → i < n → nodes i ≡ m → entries (3 * i) ≡ getD (entriesOf i m) 0 no
-    first-entry {i} l e = ap entries (sym (add-zero (3 * i))) ∙ each-entry 0 (omega arith) l e
-
+  module _ (nodes : ℕ → Node) (n : ℕ) (owned : Owned nodes entries n) where
     own-entry : (k : Kind) {i a b c : ℕ} → allowed Stage.Condition (numberOf k) ≡ true → i < n → nodes i ≡ node (numberOf k) a b c
         → entries (3 * i) ≡ overEntries k a b c
-    own-entry k {i} {a} {b} {c} h l e = first-entry l e ∙ expression-entry k i a b c h
+    own-entry k {i} {a} {b} {c} h l e = first-entry owned l e ∙ expression-entry k i a b c h
 
     own-bits : (k : Kind) {i a b c : ℕ} → allowed Stage.Condition (numberOf k) ≡ true → i < n → nodes i ≡ node (numberOf k) a b c
         → let m = overEntries k a b c in comes (3 * i) ≡ bitsBy vals (λ x. getD (build step (3 * i)) x (ofWidth 0 0)) k (m .a) (m .b) (m .c)
@@ -154,37 +146,37 @@ module _ (vals : ℕ → Bits) (entries : ℕ → Node) where
 
     skip-both : {i : ℕ} → i < n → nodes i ≡ node 32 0 0 0 → Both i true false
     unfolding entriesOf
-    skip-both l e = record { goes = truth-says (first-entry l e); fails = truth-says (each-entry 2 (omega arith) l e) }
+    skip-both l e = record { goes = truth-says (first-entry owned l e); fails = truth-says (each-entry owned 2 (omega arith) l e) }
 
     assume-both : {i x : ℕ} {p : Bool} → i < n → nodes i ≡ node 35 x 0 0 → x < i → Says (3 * x) p → Both i p false
     unfolding entriesOf
     assume-both {i} {x} {p} l e h c = record {
-      goes = subst (Says (3 * i)) (and-self p) (connect-says Connective.And (first-entry l e) (omega arith) (omega arith) c c);
-      fails = truth-says (each-entry 2 (omega arith) l e);
+      goes = subst (Says (3 * i)) (and-self p) (connect-says Connective.And (first-entry owned l e) (omega arith) (omega arith) c c);
+      fails = truth-says (each-entry owned 2 (omega arith) l e);
     }
 
     assert-both : {i x : ℕ} {p : Bool} → i < n → nodes i ≡ node 36 x 0 0 → x < i → Says (3 * x) p → Both i p (not p)
     unfolding entriesOf
     assert-both {i} {x} {p} l e h c = record {
-      goes = subst (Says (3 * i)) (and-self p) (connect-says Connective.And (first-entry l e) (omega arith) (omega arith) c c);
-      fails = not-says (each-entry 2 (omega arith) l e) (omega arith) c;
+      goes = subst (Says (3 * i)) (and-self p) (connect-says Connective.And (first-entry owned l e) (omega arith) (omega arith) c c);
+      fails = not-says (each-entry owned 2 (omega arith) l e) (omega arith) c;
     }
 
     module _ {i x y : ℕ} {p w q v : Bool} (l : i < n) (hx : x < i) (hy : y < i) (a : Both x p w) (b : Both y q v) where
       sequence-both : nodes i ≡ node 37 x y 0 → Both i (p && q) (w || (p && v))
       unfolding entriesOf
       sequence-both e =
-          let helper = connect-says Connective.And (each-entry 1 (omega arith) l e) (omega arith) (omega arith) (a .goes) (b .fails) in
+          let helper = connect-says Connective.And (each-entry owned 1 (omega arith) l e) (omega arith) (omega arith) (a .goes) (b .fails) in
           record {
-            goes = connect-says Connective.And (first-entry l e) (omega arith) (omega arith) (a .goes) (b .goes);
-            fails = connect-says Connective.Or (each-entry 2 (omega arith) l e) (omega arith) (omega arith) (a .fails) helper;
+            goes = connect-says Connective.And (first-entry owned l e) (omega arith) (omega arith) (a .goes) (b .goes);
+            fails = connect-says Connective.Or (each-entry owned 2 (omega arith) l e) (omega arith) (omega arith) (a .fails) helper;
           }
 
       choice-both : nodes i ≡ node 38 x y 0 → Both i (p || q) (w || v)
       unfolding entriesOf
       choice-both e = record {
-        goes = connect-says Connective.Or (first-entry l e) (omega arith) (omega arith) (a .goes) (b .goes);
-        fails = connect-says Connective.Or (each-entry 2 (omega arith) l e) (omega arith) (omega arith) (a .fails) (b .fails);
+        goes = connect-says Connective.Or (first-entry owned l e) (omega arith) (omega arith) (a .goes) (b .goes);
+        fails = connect-says Connective.Or (each-entry owned 2 (omega arith) l e) (omega arith) (omega arith) (a .fails) (b .fails);
       }
 
     -- a side's equations: the side goes on where it went on and they hold, and goes wrong where it did
@@ -226,7 +218,7 @@ module _ (q : Passive) (vals : ℕ → Bits) where
       let ns = emit q 0 in
       let nodes = plainNode (words ns) in
       let some : 0 < length ns = gives-statement nodes q .some 0 in
-      let own = statement-both vals (entryAt ns) nodes (length ns) (owned-entry ns) q 0 (top 0 ns) (emitted-spans q) (omega arith) in
+      let own = statement-both vals (entryAt ns) nodes (length ns) (owned-entries ns) q 0 (top 0 ns) (emitted-spans q) (omega arith) in
       let e : 3 * top 0 ns + 2 ≡ 3 * length ns - 1 = omega arith in
       not-says vals (entryAt ns) (last-entry ns) (omega arith) (subst (λ (j : ℕ). Says vals (entryAt ns) j (goesWrong vals q)) e (own .fails))
 
