@@ -246,11 +246,17 @@ module _ (ws : List ℕ) (nodes entries : ℕ → Node) (n : ℕ)
     test-child : (x : ℕ) → isTest (own x) ≡ true → (x < i) × (sortOfEntry (3 * x) ≡ Sort.Test)
     test-child x h = let e = test-is (own x) h in let f : isFormed (own x) ≡ true = rw e in (there x f, child-first x f ∙ rw e)
 
-    statement-child : (x : ℕ) → isStatement (own x) ≡ true → (x < i) × (sortOfEntry (3 * x) ≡ Sort.Test) × (sortOfEntry (3 * x + 2) ≡ Sort.Test)
+    -- a statement's entries that a parent reads
+    record Child (x : ℕ) : Type 0 where
+      below : x < i
+      on : sortOfEntry (3 * x) ≡ Sort.Test
+      wrong : sortOfEntry (3 * x + 2) ≡ Sort.Test
+
+    statement-child : (x : ℕ) → isStatement (own x) ≡ true → Child x
     statement-child x h =
         let e = statement-is (own x) h in
         let f : isFormed (own x) ≡ true = rw e in
-        (there x f, child-first x f ∙ rw e, before x (there x f) .third)
+        record { below = there x f; on = child-first x f ∙ rw e; wrong = before x (there x f) .third }
 
     -- the node is of a kind
     abbrev Is : Kind → Type 0
@@ -285,48 +291,51 @@ module _ (ws : List ℕ) (nodes entries : ℕ → Node) (n : ℕ)
         owns (its-sort Kind.Skip h) (truth-sort (3 * i) 1 (omega arith) (first-entry owned l (h .is)))
         (no-sort (3 * i + 1) (each-entry owned 1 (omega arith) l (h .is))) (no-sort (3 * i + 2) (each-entry owned 2 (omega arith) l (h .is)))
 
+    -- a statement over a test, and one over two statements
+    module _ (k : Kind) (known : Is k) where
+      over-test : sortBy ws 0 own k (nodes i .a) (nodes i .b) (nodes i .c) ≡ only (isTest (own (nodes i .a))) Sort.Statement
+          → (nodeSort i ≡ Sort.Statement) × (nodes i .a < i) × (sortOfEntry (3 * nodes i .a) ≡ Sort.Test)
+      over-test e =
+          let q = only-formed (isTest (own (nodes i .a))) Sort.Statement (rw e at (known .good)) .0 in
+          let x = test-child (nodes i .a) q in
+          (its-sort k known ∙ e ∙ rw q, x .0, x .1)
+
+      over-statements : sortBy ws 0 own k (nodes i .a) (nodes i .b) (nodes i .c) ≡ only (isStatement (own (nodes i .a)) && isStatement (own (nodes i .b))) Sort.Statement
+          → (nodeSort i ≡ Sort.Statement) × Child (nodes i .a) × Child (nodes i .b)
+      over-statements e =
+          let q = only-formed (isStatement (own (nodes i .a)) && isStatement (own (nodes i .b))) Sort.Statement (rw e at (known .good)) .0 in
+          let both = both-true (isStatement (own (nodes i .a))) (isStatement (own (nodes i .b))) q in
+          (its-sort k known ∙ e ∙ rw q, statement-child (nodes i .a) (both .0), statement-child (nodes i .b) (both .1))
+
     assume-owns : Is Kind.Assume → Owns i
     unfolding entriesOf
     assume-owns h =
-        let q = only-formed (isTest (own (nodes i .a))) Sort.Statement (h .good) .0 in
-        let x = test-child (nodes i .a) q in
-        owns (its-sort Kind.Assume h ∙ rw q)
-        (connect-sort Connective.And (3 * i) (omega arith) (omega arith) (x .1) (x .1) (first-entry owned l (h .is)))
+        let x = over-test Kind.Assume h refl in
+        owns (x .0) (connect-sort Connective.And (3 * i) (omega arith) (omega arith) (x .2) (x .2) (first-entry owned l (h .is)))
         (no-sort (3 * i + 1) (each-entry owned 1 (omega arith) l (h .is))) (no-sort (3 * i + 2) (each-entry owned 2 (omega arith) l (h .is)))
 
     assert-owns : Is Kind.Assert → Owns i
     unfolding entriesOf
     assert-owns h =
-        let q = only-formed (isTest (own (nodes i .a))) Sort.Statement (h .good) .0 in
-        let x = test-child (nodes i .a) q in
-        owns (its-sort Kind.Assert h ∙ rw q)
-        (connect-sort Connective.And (3 * i) (omega arith) (omega arith) (x .1) (x .1) (first-entry owned l (h .is)))
-        (no-sort (3 * i + 1) (each-entry owned 1 (omega arith) l (h .is))) (not-sort (3 * i + 2) (omega arith) (x .1) (each-entry owned 2 (omega arith) l (h .is)))
+        let x = over-test Kind.Assert h refl in
+        owns (x .0) (connect-sort Connective.And (3 * i) (omega arith) (omega arith) (x .2) (x .2) (first-entry owned l (h .is)))
+        (no-sort (3 * i + 1) (each-entry owned 1 (omega arith) l (h .is))) (not-sort (3 * i + 2) (omega arith) (x .2) (each-entry owned 2 (omega arith) l (h .is)))
 
     sequence-owns : Is Kind.Sequence → Owns i
     unfolding entriesOf
     sequence-owns h =
-        let q = only-formed (isStatement (own (nodes i .a)) && isStatement (own (nodes i .b))) Sort.Statement (h .good) .0 in
-        let both = both-true (isStatement (own (nodes i .a))) (isStatement (own (nodes i .b))) q in
-        let x = statement-child (nodes i .a) (both .0) in
-        let y = statement-child (nodes i .b) (both .1) in
-        let second = connect-sort Connective.And (3 * i + 1) (omega arith) (omega arith) (x .1) (y .2) (each-entry owned 1 (omega arith) l (h .is)) in
-        owns (its-sort Kind.Sequence h ∙ rw q)
-        (connect-sort Connective.And (3 * i) (omega arith) (omega arith) (x .1) (y .1) (first-entry owned l (h .is)))
-        second
-        (connect-sort Connective.Or (3 * i + 2) (omega arith) (omega arith) (x .2) second (each-entry owned 2 (omega arith) l (h .is)))
+        let x = over-statements Kind.Sequence h refl in
+        let second = connect-sort Connective.And (3 * i + 1) (omega arith) (omega arith) (x .1 .on) (x .2 .wrong) (each-entry owned 1 (omega arith) l (h .is)) in
+        owns (x .0) (connect-sort Connective.And (3 * i) (omega arith) (omega arith) (x .1 .on) (x .2 .on) (first-entry owned l (h .is)))
+        second (connect-sort Connective.Or (3 * i + 2) (omega arith) (omega arith) (x .1 .wrong) second (each-entry owned 2 (omega arith) l (h .is)))
 
     choice-owns : Is Kind.Choice → Owns i
     unfolding entriesOf
     choice-owns h =
-        let q = only-formed (isStatement (own (nodes i .a)) && isStatement (own (nodes i .b))) Sort.Statement (h .good) .0 in
-        let both = both-true (isStatement (own (nodes i .a))) (isStatement (own (nodes i .b))) q in
-        let x = statement-child (nodes i .a) (both .0) in
-        let y = statement-child (nodes i .b) (both .1) in
-        owns (its-sort Kind.Choice h ∙ rw q)
-        (connect-sort Connective.Or (3 * i) (omega arith) (omega arith) (x .1) (y .1) (first-entry owned l (h .is)))
+        let x = over-statements Kind.Choice h refl in
+        owns (x .0) (connect-sort Connective.Or (3 * i) (omega arith) (omega arith) (x .1 .on) (x .2 .on) (first-entry owned l (h .is)))
         (no-sort (3 * i + 1) (each-entry owned 1 (omega arith) l (h .is)))
-        (connect-sort Connective.Or (3 * i + 2) (omega arith) (omega arith) (x .2) (y .2) (each-entry owned 2 (omega arith) l (h .is)))
+        (connect-sort Connective.Or (3 * i + 2) (omega arith) (omega arith) (x .1 .wrong) (x .2 .wrong) (each-entry owned 2 (omega arith) l (h .is)))
 
     known-owns : (k : Kind) → Is k → Owns i
     unfolding times

@@ -10,7 +10,7 @@ use lib.ListN.{getD, length, length-append}
 use Rattle.model.specs.Trees.{Val, Test, Stmt, truthOf, bitsIn}
 use Rattle.model.specs.Good.{widthOfValue, GoodValue, GoodTest, Good}
 use Rattle.model.specs.Runs.{State, Outcome, run}
-use Rattle.model.specs.Passive.{Passive, Origin, Vars, next, beside, Form, form, JoinRule, newWidths, equations, join, passify, renamed, renamedTest, _then_}
+use Rattle.model.specs.Passive.{Passive, Origin, Vars, next, fresh, beside, Form, form, JoinRule, newWidths, equations, join, passify, renamed, renamedTest, _then_}
 use Rattle.model.specs.Emit.{past, emit}
 use Rattle.model.specs.declared.Comparison.{Comparison}
 use Rattle.model.proofs.GoodForms.{AllWidths, GoodEquations, GoodPassive}
@@ -233,6 +233,38 @@ module _ (ws : List ℕ) (sizes : AllWidths ws) where
     complete = λ widths e k front. record { meets = λ v fits t eq. rw (same t) (x .complete widths e k front .meets v fits t eq) };
   }
 
+  -- a statement that leaves the variables as they are
+  exact-still : (go : Run) (q : Vars → Passive)
+      → ((widths : List ℕ) (e : Vars) → Ready ws e → Front (e .widths) widths
+      → GoodPassive widths (q e) × ((v : ℕ → ℕ) → Sound ws widths v go e (form (q e) e)) × Complete ws widths go e (form (q e) e))
+      → ExactForm go (λ e. form (q e) e)
+  exact-still go q h = record {
+    ready = λ e k. k;
+    steps = λ e k. steps-refl ws e;
+    counted = λ e k at. omega arith;
+    good = λ widths e k front. h widths e k front .0;
+    sound = λ widths v fits e k front. h widths e k front .1 v;
+    complete = λ widths e k front. h widths e k front .2;
+  }
+
+  -- one that gives the field i a new variable
+  module _ (i : ℕ) (there : i < length ws) where
+    abbrev after : Vars → Vars
+    after e = fresh e i (getD ws i 0)
+
+    exact-fresh : (go : Run) (q : Vars → Passive) → ((e : Vars) (at : ℕ) → 1 ≤ sizeAt (q e) at)
+        → ((widths : List ℕ) (e : Vars) → Ready ws e → Front (after e .widths) widths
+        → GoodPassive widths (q e) × ((v : ℕ → ℕ) → Fits widths v → Sound ws widths v go e (form (q e) (after e))) × Complete ws widths go e (form (q e) (after e)))
+        → ExactForm go (λ e. form (q e) (after e))
+    exact-fresh go q some h = record {
+      ready = λ e k. ready-fresh ws e i sizes there k;
+      steps = λ e k. steps-fresh ws e i sizes there k;
+      counted = λ e k at. omega (arith, length-append (e .widths) (getD ws i 0 ∷ []), some e at);
+      good = λ widths e k front. h widths e k front .0;
+      sound = λ widths v fits e k front. h widths e k front .1 v fits;
+      complete = λ widths e k front. h widths e k front .2;
+    }
+
   -- statements, where tables are exact
   module _ (rule : JoinRule) (laws : JoinLaws rule) (onApply : ℕ → State → Outcome) (formApply : ℕ → Vars → Form) (tables : ℕ)
       (applies : (t : ℕ) → t < tables → ExactForm (onApply t) (formApply t)) where
@@ -241,64 +273,57 @@ module _ (ws : List ℕ) (sizes : AllWidths ws) where
 
     exact-skip : Stated Stmt.skip
     unfolding run passify GoodPassive
-    exact-skip = record {
-      ready = λ e k. k;
-      steps = λ e k. steps-refl ws e;
-      counted = λ e k at. omega arith;
-      good = λ widths e k front. tt;
-      sound = λ widths v fits e k front. sound-skip ws widths v onApply rule formApply e;
-      complete = λ widths e k front. complete-skip ws widths onApply rule formApply e k front;
-    }
+    exact-skip =
+        exact-still (run ws onApply Stmt.skip) (λ e. Passive.skip)
+        (λ widths e k front. (tt, λ v. sound-skip ws widths v onApply rule formApply e, complete-skip ws widths onApply rule formApply e k front))
 
     exact-assume : (n : ℕ) (t : Test) → GoodTest ws t → Stated (Stmt.assume n t)
     unfolding run passify GoodPassive
-    exact-assume n t g = record {
-      ready = λ e k. k;
-      steps = λ e k. steps-refl ws e;
-      counted = λ e k at. omega arith;
-      good = λ widths e k front. reads-good-test ws widths e k front t g;
-      sound = λ widths v fits e k front. sound-assume ws widths v onApply rule formApply e k front n t g;
-      complete = λ widths e k front. complete-assume ws widths onApply rule formApply e k front n t g;
-    }
+    exact-assume n t g =
+        exact-still (run ws onApply (Stmt.assume n t)) (λ e. Passive.assume (renamedTest (e .current) t))
+        (λ widths e k front. (
+          reads-good-test ws widths e k front t g,
+          λ v. sound-assume ws widths v onApply rule formApply e k front n t g,
+          complete-assume ws widths onApply rule formApply e k front n t g,
+        ))
 
     exact-assert : (n : ℕ) (t : Test) → GoodTest ws t → Stated (Stmt.assert n t)
     unfolding run passify GoodPassive
-    exact-assert n t g = record {
-      ready = λ e k. k;
-      steps = λ e k. steps-refl ws e;
-      counted = λ e k at. omega arith;
-      good = λ widths e k front. reads-good-test ws widths e k front t g;
-      sound = λ widths v fits e k front. sound-assert ws widths v onApply rule formApply e k front n t g;
-      complete = λ widths e k front. complete-assert ws widths onApply rule formApply e k front n t g;
-    }
+    exact-assert n t g =
+        exact-still (run ws onApply (Stmt.assert n t)) (λ e. Passive.assert (renamedTest (e .current) t))
+        (λ widths e k front. (
+          reads-good-test ws widths e k front t g,
+          λ v. sound-assert ws widths v onApply rule formApply e k front n t g,
+          complete-assert ws widths onApply rule formApply e k front n t g,
+        ))
 
     exact-havoc : (i : ℕ) → i < length ws → Stated (Stmt.havoc i)
     unfolding run passify GoodPassive emit
-    exact-havoc i h = record {
-      ready = λ e k. ready-fresh ws e i sizes h k;
-      steps = λ e k. steps-fresh ws e i sizes h k;
-      counted = λ e k at. omega (arith, length-append (e .widths) (getD ws i 0 ∷ []));
-      good = λ widths e k front. tt;
-      sound = λ widths v fits e k front.
-          sound-havoc ws widths v onApply rule formApply e i (rw (fresh-width e i (getD ws i 0) widths front) at (fits (next e)));
-      complete = λ widths e k front. complete-havoc ws widths onApply rule formApply e k i front;
-    }
+    exact-havoc i h =
+        exact-fresh i h (run ws onApply (Stmt.havoc i)) (λ e. Passive.havoced (next e)) (λ e at. le-refl 1)
+        (λ widths e k front. (
+          tt,
+          λ v fits. sound-havoc ws widths v onApply rule formApply e i (rw (fresh-width e i (getD ws i 0) widths front) at (fits (next e))),
+          complete-havoc ws widths onApply rule formApply e k i front,
+        ))
 
     exact-assign : (i : ℕ) (x : Val) → i < length ws → GoodValue ws x → widthOfValue ws x ≡ getD ws i 0 → Stated (Stmt.assign i x)
     unfolding run passify GoodPassive GoodValue widthOfValue
-    exact-assign i x h g w = record {
-      ready = λ e k. ready-fresh ws e i sizes h k;
-      steps = λ e k. steps-fresh ws e i sizes h k;
-      counted = λ e k at. omega (arith, length-append (e .widths) (getD ws i 0 ∷ []), size-assume (Test.compare Comparison.Equal (renamed (e .current) x) (Val.field (next e))) at);
-      good = λ widths e k front.
-          let fb = front-trans (front-append (e .widths) _) front in (
-            reads-good ws widths e k fb x g,
+    exact-assign i x h g w =
+        exact-fresh i h (run ws onApply (Stmt.assign i x)) (λ e. Passive.assume (equals e)) (λ e at. size-assume (equals e) at)
+        (λ widths e k front.
+        let before = front-trans (front-append (e .widths) _) front in (
+          (
+            reads-good ws widths e k before x g,
             fresh-there e i (getD ws i 0) widths front,
-            reads-width ws widths e k fb x g ∙ w ∙ sym (fresh-width e i (getD ws i 0) widths front),
-          );
-      sound = λ widths v fits e k front. sound-assign ws widths v onApply rule formApply e k (front-trans (front-append (e .widths) _) front) i x g;
-      complete = λ widths e k front. complete-assign ws widths onApply rule formApply e k i front x g w;
-    }
+            reads-width ws widths e k before x g ∙ w ∙ sym (fresh-width e i (getD ws i 0) widths front),
+          ),
+          λ v fits. sound-assign ws widths v onApply rule formApply e k before i x g,
+          complete-assign ws widths onApply rule formApply e k i front x g w,
+        ))
+      where
+        equals : Vars → Test
+        equals e = Test.compare Comparison.Equal (renamed (e .current) x) (Val.field (next e))
 
     pub exact-statement : (s : Stmt) → Good ws tables s → Stated s
     unfolding run passify Good
