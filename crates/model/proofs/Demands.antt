@@ -2,7 +2,7 @@
 use Prim.Native.Nat.{ℕ}
 use native.Mathlib.Omega.{arith}
 use mathlib.Core.Path.{_≡_, refl, sym, ap, _∙_}
-use mathlib.Core.Bool.{not}
+use mathlib.Core.Bool.{true, not}
 use mathlib.Core.List.{List, [], _∷_}
 use lib.ListN.{length}
 use borrow.Author.Tests.{not-false}
@@ -12,7 +12,8 @@ use Rattle.model.specs.Runs.{packetWidths}
 use Rattle.model.specs.Passive.{passive, newWhereDiffers}
 use Rattle.model.specs.Emit.{passiveForm}
 use Rattle.model.specs.Walk.{goesWrong, packetOf, choicesOf}
-use Rattle.model.specs.Calls.{conditionTruth}
+use Rattle.model.specs.Answers.{done}
+use Rattle.model.specs.Calls.{conditionTruth, confirm}
 use Rattle.model.specs.Demands.{FailsWith, Accepted, Falsifiable, CanFail, FalseUnder, Demand3, NotConstant, variableWidths}
 use Rattle.model.specs.Examples.{bothFalse}
 use Rattle.model.proofs.Compute.{compute}
@@ -22,6 +23,7 @@ use Rattle.model.proofs.Joins.{document-joins}
 use Rattle.model.proofs.Theorem.{form-sized, form-good, packet-within, taken-fails, found-wrong}
 use Rattle.model.proofs.Evaluation.{condition-truth}
 use Rattle.model.proofs.Accepts.{built, valued}
+use Rattle.model.proofs.Confirms.{confirm-yes}
 
 -- the condition's truth is that the form doesn't go wrong
 truth-is : (p r valuation : List ℕ) → conditionTruth (passiveForm p r) valuation ≡ not (goesWrong (bitsIn (variableWidths p r) valuation) (passive p r .body))
@@ -45,6 +47,10 @@ module _ (p r : List ℕ) (accepted : Accepted p r) where
     fails : FalseUnder p r valuation → FailsWith p r (packetOf p valuation) (choicesOf p r valuation) (length (choicesOf p r valuation))
     unfolding passiveForm
     fails e = taken-fails p r well newWhereDiffers document-joins valuation within (not-false _ (sym (truth-is p r valuation) ∙ e))
+
+    -- so Confirm says yes
+    pub confirmed : FalseUnder p r valuation → confirm p r (packetOf p valuation) (choicesOf p r valuation) ≡ done true
+    confirmed e = confirm-yes p r (packetOf p valuation) accepted packet-fits (choicesOf p r valuation) (fails e)
 
   falsified : CanFail p r → Falsifiable p r
   unfolding passiveForm
