@@ -16,33 +16,33 @@ use Rattle.model.proofs.Booleans.{both-true, true-both}
 use Rattle.model.proofs.GoodForms.{GoodEquations}
 
 -- the variables' bits, where `v` gives their values
-abbrev pub valued : List ℕ → (ℕ → ℕ) → ℕ → Bits
-valued widths v x = ofWidth (getD widths x 0) (v x)
+abbrev pub varBits : List ℕ → (ℕ → ℕ) → ℕ → Bits
+varBits widths v x = ofWidth (getD widths x 0) (v x)
 
 module _ (widths : List ℕ) where
   module _ (v : ℕ → ℕ) where
-    pub equal-map : (xs zs : List ℕ) → length xs ≡ length zs → equal (valued widths v) (equations xs zs) ≡ true → map v xs ≡ map v zs
+    pub equal-map : (xs zs : List ℕ) → length xs ≡ length zs → equal (varBits widths v) (equations xs zs) ≡ true → map v xs ≡ map v zs
     unfolding equal equations
     equal-map [] [] e h = refl
     equal-map [] (z ∷ zs) e h = let n : _≡_ {A = ℕ} 0 1 = omega arith in cc
     equal-map (x ∷ xs) [] e h = let n : _≡_ {A = ℕ} 0 1 = omega arith in cc
     equal-map (x ∷ xs) (z ∷ zs) e h = go (eqb x z) refl h (λ k. equal-map xs zs (suc-inj e) k)
       where
-        go : (b : Bool) → eqb x z ≡ b → equal (valued widths v) (if b then equations xs zs else record { own = x; joined = z } ∷ equations xs zs) ≡ true
-            → (equal (valued widths v) (equations xs zs) ≡ true → map v xs ≡ map v zs) → map v (x ∷ xs) ≡ map v (z ∷ zs)
+        go : (b : Bool) → eqb x z ≡ b → equal (varBits widths v) (if b then equations xs zs else record { own = x; joined = z } ∷ equations xs zs) ≡ true
+            → (equal (varBits widths v) (equations xs zs) ≡ true → map v xs ≡ map v zs) → map v (x ∷ xs) ≡ map v (z ∷ zs)
         go true i k rec = cc (eqb-true x z i, rec k)
         go false i k rec =
-            let kk = both-true (eqb (v x) (v z)) (equal (valued widths v) (equations xs zs)) k in
+            let kk = both-true (eqb (v x) (v z)) (equal (varBits widths v) (equations xs zs)) k in
             cc (eqb-true (v x) (v z) (kk .0), rec (kk .1))
 
-    pub map-equal : (xs zs : List ℕ) → map v xs ≡ map v zs → equal (valued widths v) (equations xs zs) ≡ true
+    pub map-equal : (xs zs : List ℕ) → map v xs ≡ map v zs → equal (varBits widths v) (equations xs zs) ≡ true
     unfolding equal equations
     map-equal [] zs p = refl
     map-equal (x ∷ xs) [] p = refl
     map-equal (x ∷ xs) (z ∷ zs) p = go (eqb x z) (map-equal xs zs (cc))
       where
-        go : (b : Bool) → equal (valued widths v) (equations xs zs) ≡ true
-            → equal (valued widths v) (if b then equations xs zs else record { own = x; joined = z } ∷ equations xs zs) ≡ true
+        go : (b : Bool) → equal (varBits widths v) (equations xs zs) ≡ true
+            → equal (varBits widths v) (if b then equations xs zs else record { own = x; joined = z } ∷ equations xs zs) ≡ true
         go true k = k
         go false k = true-both (eqb (v x) (v z)) _ (eq-eqb (v x) (v z) (cc)) k
 

@@ -33,6 +33,14 @@ document-joins = record { left = λ b l r new. left b l r new (eqb l r) refl; ri
     right b l r new true e = inl (eqb-true l r e)
     right b l r new false e = inr (inr refl)
 
+bump : (m : ℕ) (t : Bool) → m ≤ (if t then suc m else m)
+bump m true = omega arith
+bump m false = le-refl m
+
+-- a variable is there, and has the width
+abbrev HasWidth : List ℕ → ℕ → ℕ → Type 0
+HasWidth widths x w = (x < length widths) × (getD widths x 0 ≡ w)
+
 module _ (rule : JoinRule) where
   -- the next new variable at the place i
   newAt : ℕ → List ℕ → List ℕ → List ℕ → ℕ → ℕ
@@ -41,10 +49,6 @@ module _ (rule : JoinRule) where
   newAt m (b ∷ bs) [] rs (suc i) = m
   newAt m (b ∷ bs) (l ∷ ls) [] (suc i) = m
   newAt m (b ∷ bs) (l ∷ ls) (r ∷ rs) (suc i) = newAt (if eqb (rule b l r m) m then suc m else m) bs ls rs i
-
-  bump : (m : ℕ) (t : Bool) → m ≤ (if t then suc m else m)
-  bump m true = omega arith
-  bump m false = le-refl m
 
   new-from : (m : ℕ) (bs ls rs : List ℕ) (i : ℕ) → m ≤ newAt m bs ls rs i
   unfolding newAt
@@ -55,14 +59,14 @@ module _ (rule : JoinRule) where
   new-from m (b ∷ bs) (l ∷ ls) (r ∷ rs) (suc i) = le-trans (bump m (eqb (rule b l r m) m)) (new-from _ bs ls rs i)
 
   -- a joined variable is what the rule says of its field
-  joined-at : (m : ℕ) (bs ls rs : List ℕ) (i : ℕ) → i < length bs → length ls ≡ length bs → length rs ≡ length bs
+  joined-by : (m : ℕ) (bs ls rs : List ℕ) (i : ℕ) → i < length bs → length ls ≡ length bs → length rs ≡ length bs
       → getD (joinedVars rule m bs ls rs) i 0 ≡ rule (getD bs i 0) (getD ls i 0) (getD rs i 0) (newAt m bs ls rs i)
   unfolding newAt joinedVars
-  joined-at m [] ls rs i h p q = absurd (not-suc-le-zero h)
-  joined-at m (b ∷ bs) [] rs i h p q = let z : ⊥ = omega arith in absurd z
-  joined-at m (b ∷ bs) (l ∷ ls) [] i h p q = let z : ⊥ = omega arith in absurd z
-  joined-at m (b ∷ bs) (l ∷ ls) (r ∷ rs) zero h p q = refl
-  joined-at m (b ∷ bs) (l ∷ ls) (r ∷ rs) (suc i) h p q = joined-at _ bs ls rs i (le-of-suc-le-suc h) (suc-inj p) (suc-inj q)
+  joined-by m [] ls rs i h p q = absurd (not-suc-le-zero h)
+  joined-by m (b ∷ bs) [] rs i h p q = let z : ⊥ = omega arith in absurd z
+  joined-by m (b ∷ bs) (l ∷ ls) [] i h p q = let z : ⊥ = omega arith in absurd z
+  joined-by m (b ∷ bs) (l ∷ ls) (r ∷ rs) zero h p q = refl
+  joined-by m (b ∷ bs) (l ∷ ls) (r ∷ rs) (suc i) h p q = joined-by _ bs ls rs i (le-of-suc-le-suc h) (suc-inj p) (suc-inj q)
 
   joined-length : (m : ℕ) (bs ls rs : List ℕ) → length ls ≡ length bs → length rs ≡ length bs → length (joinedVars rule m bs ls rs) ≡ length bs
   unfolding joinedVars
@@ -84,9 +88,6 @@ module _ (rule : JoinRule) where
       new-once _ bs ls rs i j (le-of-suc-le-suc h) (le-of-suc-le-suc h′) (suc-inj p) (suc-inj q) e
 
   -- and it has the field's width
-  abbrev HasWidth : List ℕ → ℕ → ℕ → Type 0
-  HasWidth l x w = (x < length l) × (getD l x 0 ≡ w)
-
   new-width : (before : List ℕ) (m : ℕ) (ws bs ls rs : List ℕ) (i : ℕ) → length before ≡ m
       → i < length bs → length ls ≡ length bs → length rs ≡ length bs → length ws ≡ length bs
       → getD (joinedVars rule m bs ls rs) i 0 ≡ newAt m bs ls rs i
@@ -115,15 +116,15 @@ module _ (rule : JoinRule) where
           (rec (before ++ (w ∷ [])) (suc m) (omega (arith, length-append before (w ∷ []))) x)
       go false rec x = rec before m k x
 
-  new-sized : (m : ℕ) (ws zs : List ℕ) → AllWidths ws → AllWidths (newWidths m ws zs)
-  unfolding newWidths
-  new-sized m [] zs s = λ i h. absurd (not-suc-le-zero h)
-  new-sized m (w ∷ ws) [] s = λ i h. absurd (not-suc-le-zero h)
-  new-sized m (w ∷ ws) (z ∷ zs) s = go (eqb z m) (λ n. new-sized n ws zs (λ j k. s (suc j) (suc-le-suc k)))
-    where
-      go : (t : Bool) → ((n : ℕ) → AllWidths (newWidths n ws zs)) → AllWidths (if t then w ∷ newWidths (suc m) ws zs else newWidths m ws zs)
-      go true rec = all-more (w ∷ []) (newWidths (suc m) ws zs) (all-one w (s zero (zero-lt-suc _))) (rec (suc m))
-      go false rec = rec m
+new-sized : (m : ℕ) (ws zs : List ℕ) → AllWidths ws → AllWidths (newWidths m ws zs)
+unfolding newWidths
+new-sized m [] zs s = λ i h. absurd (not-suc-le-zero h)
+new-sized m (w ∷ ws) [] s = λ i h. absurd (not-suc-le-zero h)
+new-sized m (w ∷ ws) (z ∷ zs) s = go (eqb z m) (λ n. new-sized n ws zs (λ j k. s (suc j) (suc-le-suc k)))
+  where
+    go : (t : Bool) → ((n : ℕ) → AllWidths (newWidths n ws zs)) → AllWidths (if t then w ∷ newWidths (suc m) ws zs else newWidths m ws zs)
+    go true rec = all-more (w ∷ []) (newWidths (suc m) ws zs) (all-one w (s zero (zero-lt-suc _))) (rec (suc m))
+    go false rec = rec m
 
 -- Where a joined variable comes from, seen from a side: its own, one from a bound on, that the other side brought, or the new one.
 abbrev Source : ℕ → ℕ → ℕ → ℕ → ℕ → Type 0
@@ -135,35 +136,45 @@ source z own other new b bound (inr (inl x)) (inl m) = absurd (x .1 m)
 source z own other new b bound (inr (inl x)) (inr m) = inr (inl (x .0, m))
 source z own other new b bound (inr (inr x)) m = inr (inr x)
 
--- both sides of a choice, from the variables before it
-module _ (ws : List ℕ) (rule : JoinRule) (laws : JoinLaws rule) (sizes : AllWidths ws) (e l r : Vars)
-    (ke : Ready ws e) (kl : Ready ws l) (kr : Ready ws r) (left : Steps ws e l) (right : Steps ws (beside e l) r) where
-  abbrev zs : List ℕ
-  zs = joinedVars rule (next r) (e .current) (l .current) (r .current)
+-- the variables after a choice
+abbrev pub joinedAfter : List ℕ → JoinRule → Vars → Vars → Vars → Vars
+joinedAfter ws rule e l r = let zs = joinedVars rule (next r) (e .current) (l .current) (r .current) in vars zs (r .widths ++ newWidths (next r) ws zs)
 
+pub joined-front : (ws : List ℕ) (rule : JoinRule) (e l r : Vars) (widths : List ℕ) → Front (joinedAfter ws rule e l r .widths) widths → Front (r .widths) widths
+joined-front ws rule e l r widths front = front-trans (front-append (r .widths) _) front
+
+-- both sides of a choice, from the variables before it: the right one starts from those, numbering on
+pub record TwoSides (ws : List ℕ) (e l r : Vars) : Type 0 where
+  pub before : Ready ws e
+  pub leftReady : Ready ws l
+  pub rightReady : Ready ws r
+  pub left : Steps ws e l
+  pub right : Steps ws (beside e l) r
+
+module _ (ws : List ℕ) (rule : JoinRule) (laws : JoinLaws rule) (sizes : AllWidths ws) (e l r : Vars) (s : TwoSides ws e l r) where
   abbrev after : Vars
-  after = vars zs (r .widths ++ newWidths (next r) ws zs)
+  after = joinedAfter ws rule e l r
 
   abbrev new : ℕ → ℕ
   new i = newAt rule (next r) (e .current) (l .current) (r .current) i
 
   left-size : length (l .current) ≡ length (e .current)
-  left-size = kl .size ∙ sym (ke .size)
+  left-size = s .leftReady .size ∙ sym (s .before .size)
 
   right-size : length (r .current) ≡ length (e .current)
-  right-size = kr .size ∙ sym (ke .size)
+  right-size = s .rightReady .size ∙ sym (s .before .size)
 
   by-rule : (i : ℕ) → i < length ws → var after i ≡ rule (var e i) (var l i) (var r i) (new i)
-  by-rule i h = joined-at rule (next r) (e .current) (l .current) (r .current) i (rw (ke .size) h) left-size right-size
+  by-rule i h = joined-by rule (next r) (e .current) (l .current) (r .current) i (rw (s .before .size) h) left-size right-size
 
   from-left : (i : ℕ) → i < length ws → Source (var after i) (var l i) (var r i) (next l) (new i)
-  from-left i h = rw (by-rule i h) (source _ _ _ _ _ _ (laws .left (var e i) (var l i) (var r i) (new i)) (right .moved i h))
+  from-left i h = rw (by-rule i h) (source _ _ _ _ _ _ (laws .left (var e i) (var l i) (var r i) (new i)) (s .right .moved i h))
 
   from-right : (i : ℕ) → i < length ws → Source (var after i) (var r i) (var l i) (next e) (new i)
-  from-right i h = rw (by-rule i h) (source _ _ _ _ _ _ (laws .right (var e i) (var l i) (var r i) (new i)) (left .moved i h))
+  from-right i h = rw (by-rule i h) (source _ _ _ _ _ _ (laws .right (var e i) (var l i) (var r i) (new i)) (s .left .moved i h))
 
   after-left : next l ≤ next r
-  after-left = right .front .shorter
+  after-left = s .right .front .shorter
 
   after-right : Front (r .widths) (after .widths)
   after-right = front-append (r .widths) _
@@ -172,41 +183,41 @@ module _ (ws : List ℕ) (rule : JoinRule) (laws : JoinLaws rule) (sizes : AllWi
   new-late i = new-from rule (next r) (e .current) (l .current) (r .current) i
 
   -- a joined variable is there and has its field's width
-  has-width : (i : ℕ) → i < length ws → Source (var after i) (var l i) (var r i) (next l) (new i) → HasWidth rule (after .widths) (var after i) (getD ws i 0)
+  has-width : (i : ℕ) → i < length ws → Source (var after i) (var l i) (var r i) (next l) (new i) → HasWidth (after .widths) (var after i) (getD ws i 0)
   has-width i h (inl x) =
-      let f = front-trans (right .front) after-right in
-      rw x (lt-of-lt-of-le (kl .low i h) (f .shorter), f .same (var l i) (kl .low i h) ∙ kl .wide i h)
+      let f = front-trans (s .right .front) after-right in
+      rw x (lt-of-lt-of-le (s .leftReady .low i h) (f .shorter), f .same (var l i) (s .leftReady .low i h) ∙ s .leftReady .wide i h)
   has-width i h (inr (inl x)) =
-      rw (x .0) (lt-of-lt-of-le (kr .low i h) (after-right .shorter), after-right .same (var r i) (kr .low i h) ∙ kr .wide i h)
+      rw (x .0) (lt-of-lt-of-le (s .rightReady .low i h) (after-right .shorter), after-right .same (var r i) (s .rightReady .low i h) ∙ s .rightReady .wide i h)
   has-width i h (inr (inr x)) =
-      rw x (new-width rule (r .widths) (next r) ws (e .current) (l .current) (r .current) i refl (rw (ke .size) h) left-size right-size (sym (ke .size)) x)
+      rw x (new-width rule (r .widths) (next r) ws (e .current) (l .current) (r .current) i refl (rw (s .before .size) h) left-size right-size (sym (s .before .size)) x)
 
   module _ (i j : ℕ) (h : i < j) (k : j < length ws) where
     in-left : var l i < next l
-    in-left = kl .low i (lt-trans h k)
+    in-left = s .leftReady .low i (lt-trans h k)
 
     in-right : var r i < next r
-    in-right = kr .low i (lt-trans h k)
+    in-right = s .rightReady .low i (lt-trans h k)
 
     joined-apart : Source (var after i) (var l i) (var r i) (next l) (new i) → Source (var after j) (var l j) (var r j) (next l) (new j) → var after i ≢ var after j
-    joined-apart (inl x) (inl y) p = kl .apart i j h k (sym x ∙ p ∙ y)
+    joined-apart (inl x) (inl y) p = s .leftReady .apart i j h k (sym x ∙ p ∙ y)
     joined-apart (inl x) (inr (inl y)) p = let z : ⊥ = omega (arith, in-left, y .0, y .1) in z
     joined-apart (inl x) (inr (inr y)) p = let z : ⊥ = omega (arith, in-left, after-left, new-late j) in z
-    joined-apart (inr (inl x)) (inl y) p = let z : ⊥ = omega (arith, x .0, x .1, kl .low j k) in z
-    joined-apart (inr (inl x)) (inr (inl y)) p = kr .apart i j h k (sym (x .0) ∙ p ∙ y .0)
+    joined-apart (inr (inl x)) (inl y) p = let z : ⊥ = omega (arith, x .0, x .1, s .leftReady .low j k) in z
+    joined-apart (inr (inl x)) (inr (inl y)) p = s .rightReady .apart i j h k (sym (x .0) ∙ p ∙ y .0)
     joined-apart (inr (inl x)) (inr (inr y)) p = let z : ⊥ = omega (arith, x .0, in-right, new-late j) in z
-    joined-apart (inr (inr x)) (inl y) p = let z : ⊥ = omega (arith, after-left, new-late i, kl .low j k) in z
-    joined-apart (inr (inr x)) (inr (inl y)) p = let z : ⊥ = omega (arith, y .0, new-late i, kr .low j k) in z
+    joined-apart (inr (inr x)) (inl y) p = let z : ⊥ = omega (arith, after-left, new-late i, s .leftReady .low j k) in z
+    joined-apart (inr (inr x)) (inr (inl y)) p = let z : ⊥ = omega (arith, y .0, new-late i, s .rightReady .low j k) in z
     joined-apart (inr (inr x)) (inr (inr y)) p =
-        let z : ⊥ = omega (arith, new-once rule (next r) (e .current) (l .current) (r .current) i j h (rw (ke .size) k) left-size right-size x) in z
+        let z : ⊥ = omega (arith, new-once rule (next r) (e .current) (l .current) (r .current) i j h (rw (s .before .size) k) left-size right-size x) in z
 
   pub ready-joined : Ready ws after
   ready-joined = record {
-    size = joined-length rule (next r) (e .current) (l .current) (r .current) left-size right-size ∙ ke .size;
+    size = joined-length rule (next r) (e .current) (l .current) (r .current) left-size right-size ∙ s .before .size;
     low = λ i h. has-width i h (from-left i h) .0;
     wide = λ i h. has-width i h (from-left i h) .1;
     apart = λ i j h k. joined-apart i j h k (from-left i (lt-trans h k)) (from-left j k);
-    sized = all-more (r .widths) _ (kr .sized) (new-sized rule (next r) ws zs sizes);
+    sized = all-more (r .widths) _ (s .rightReady .sized) (new-sized (next r) ws (after .current) sizes);
   }
 
   -- a joined variable that is not the side's own is one that the side doesn't see
@@ -224,17 +235,17 @@ module _ (ws : List ℕ) (rule : JoinRule) (laws : JoinLaws rule) (sizes : AllWi
       go : Source (var after i) (var r i) (var l i) (next e) (new i)
           → (var after i ≡ var r i) ⊎ (((next e ≤ var after i) × (var after i < next l)) ⊎ (next r ≤ var after i))
       go (inl x) = inl x
-      go (inr (inl x)) = inr (inl (rw (x .0) (x .1), rw (x .0) (kl .low i h)))
+      go (inr (inl x)) = inr (inl (rw (x .0) (x .1), rw (x .0) (s .leftReady .low i h)))
       go (inr (inr x)) = inr (inr (rw x (new-late i)))
 
   pub steps-joined : Steps ws e after
   steps-joined = record {
-    front = front-trans (left .front) (front-trans (right .front) after-right);
-    moved = λ i h. go i (left-apart i h) (left .moved i h);
+    front = front-trans (s .left .front) (front-trans (s .right .front) after-right);
+    moved = λ i h. go i (left-apart i h) (s .left .moved i h);
   }
     where
       go : (i : ℕ) → (var after i ≡ var l i) ⊎ (next l ≤ var after i) → (var l i ≡ var e i) ⊎ (next e ≤ var l i)
           → (var after i ≡ var e i) ⊎ (next e ≤ var after i)
       go i (inl x) (inl y) = inl (x ∙ y)
       go i (inl x) (inr y) = inr (rw x y)
-      go i (inr x) y = inr (le-trans (left .front .shorter) x)
+      go i (inr x) y = inr (le-trans (s .left .front .shorter) x)

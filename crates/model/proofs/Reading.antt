@@ -9,7 +9,7 @@ use Rattle.model.specs.Good.{GoodValue, GoodTest, widthOfValue}
 use Rattle.model.specs.Passive.{Vars, renamed, renamedTest}
 use Rattle.model.proofs.Renaming.{getD-map, renamed-bits, renamed-truth, renamed-width, renamed-good, renamed-good-test}
 use Rattle.model.proofs.Variables.{var, Front, Ready}
-use Rattle.model.proofs.Equations.{valued}
+use Rattle.model.proofs.Equations.{varBits}
 
 -- `ws` are the fields' widths, `widths` those of all variables
 module _ (ws widths : List ℕ) (e : Vars) (k : Ready ws e) (front : Front (e .widths) widths) where
@@ -20,14 +20,14 @@ module _ (ws widths : List ℕ) (e : Vars) (k : Ready ws e) (front : Front (e .w
   wide i h = front .same (var e i) (k .low i h) ∙ k .wide i h
 
   module _ (v : ℕ → ℕ) where
-    reads : (i : ℕ) → i < length ws → valued widths v (var e i) ≡ bitsIn ws (map v (e .current)) i
+    reads : (i : ℕ) → i < length ws → varBits widths v (var e i) ≡ bitsIn ws (map v (e .current)) i
     reads i h = ap₂ ofWidth (wide i h) (sym (getD-map v (e .current) i (rw (k .size) h)))
 
-    pub reads-bits : (x : Val) → GoodValue ws x → bitsOf (valued widths v) (renamed (e .current) x) ≡ bitsOf (bitsIn ws (map v (e .current))) x
-    reads-bits x g = renamed-bits ws (e .current) (valued widths v) (bitsIn ws (map v (e .current))) reads x g
+    pub reads-bits : (x : Val) → GoodValue ws x → bitsOf (varBits widths v) (renamed (e .current) x) ≡ bitsOf (bitsIn ws (map v (e .current))) x
+    reads-bits x g = renamed-bits ws (e .current) (varBits widths v) (bitsIn ws (map v (e .current))) reads x g
 
-    pub reads-truth : (t : Test) → GoodTest ws t → truthOf (valued widths v) (renamedTest (e .current) t) ≡ truthOf (bitsIn ws (map v (e .current))) t
-    reads-truth t g = renamed-truth ws (e .current) (valued widths v) (bitsIn ws (map v (e .current))) reads t g
+    pub reads-truth : (t : Test) → GoodTest ws t → truthOf (varBits widths v) (renamedTest (e .current) t) ≡ truthOf (bitsIn ws (map v (e .current))) t
+    reads-truth t g = renamed-truth ws (e .current) (varBits widths v) (bitsIn ws (map v (e .current))) reads t g
 
   pub reads-good : (x : Val) → GoodValue ws x → GoodValue widths (renamed (e .current) x)
   reads-good x g = renamed-good ws (e .current) widths there wide x g

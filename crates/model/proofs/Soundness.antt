@@ -15,14 +15,14 @@ use Rattle.model.specs.Walk.{entry, equal, goesOn, goesWrong, walkOn, wa
 use Rattle.model.proofs.Booleans.{both-true, by-side}
 use Rattle.model.proofs.Renaming.{map-set}
 use Rattle.model.proofs.Variables.{Front, Ready}
-use Rattle.model.proofs.Equations.{valued, equal-map}
+use Rattle.model.proofs.Equations.{varBits, equal-map}
 use Rattle.model.proofs.Reading.{reads-bits, reads-truth}
 use Rattle.model.proofs.Runs.{Run, inOrder, eitherOf, whether, Goes, Fails, goes-both, fails-left, fails-right, goes-first, goes-second, fails-first, fails-second, goes-same, fails-same}
 
 -- `ws` are the fields' widths, `widths` those of all variables, `v` gives their values
 module _ (ws widths : List ℕ) (v : ℕ → ℕ) where
   abbrev at : ℕ → Bits
-  at = valued widths v
+  at = varBits widths v
 
   -- the form, made at the variables e, is sound for the run
   pub record Sound (go : Run) (e : Vars) (f : Form) : Type 0 where

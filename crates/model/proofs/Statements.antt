@@ -5,7 +5,7 @@ use native.Mathlib.Nat.{le-refl, lt-of-lt-of-le}
 use native.Mathlib.Omega.{arith}
 use mathlib.Core.Path.{_≡_, sym, _∙_}
 use mathlib.Core.Bool.{Bool}
-use mathlib.Core.List.{List, [], _∷_}
+use mathlib.Core.List.{List}
 use lib.ListN.{getD, length, length-append}
 use Rattle.model.specs.Trees.{Val, Test, Stmt, truthOf, bitsIn}
 use Rattle.model.specs.Good.{widthOfValue, GoodValue, GoodTest, Good}
@@ -14,8 +14,8 @@ use Rattle.model.specs.Passive.{Passive, Origin, Vars, next, fresh, besi
 use Rattle.model.specs.Emit.{past, emit}
 use Rattle.model.specs.declared.Comparison.{Comparison}
 use Rattle.model.proofs.GoodForms.{AllWidths, GoodEquations, GoodPassive}
-use Rattle.model.proofs.Variables.{var, Front, front-trans, front-append, Ready, Steps, steps-refl, steps-trans, ready-fresh, steps-fresh, fresh-there, fresh-width}
-use Rattle.model.proofs.Joins.{JoinLaws, ready-joined, steps-joined}
+use Rattle.model.proofs.Variables.{var, Front, front-trans, front-append, Ready, Steps, steps-refl, steps-trans, ready-beside, ready-fresh, steps-fresh, fresh-next, fresh-there, fresh-width}
+use Rattle.model.proofs.Joins.{JoinLaws, joined-front, TwoSides, ready-joined, steps-joined}
 use Rattle.model.proofs.Equations.{good-equations}
 use Rattle.model.proofs.Reading.{reads-good, reads-width, reads-good-test, reads-truth}
 use Rattle.model.proofs.Runs.{Run, inOrder, eitherOf, whether, goes-same, fails-same}
@@ -33,7 +33,7 @@ module _ (ws : List ℕ) (sizes : AllWidths ws) where
     pub good : (widths : List ℕ) (e : Vars) → Ready ws e → Front (make e .after .widths) widths → GoodPassive widths (make e .body)
     pub sound : (widths : List ℕ) (v : ℕ → ℕ) → Fits widths v → (e : Vars) → Ready ws e → Front (make e .after .widths) widths
         → Sound ws widths v go e (make e)
-    pub complete : (widths : List ℕ) (e : Vars) → Ready ws e → Front (make e .after .widths) widths → Complete ws widths go e (make e)
+    pub complete : (widths : List ℕ) (e : Vars) → Ready ws e → Front (make e .after .widths) widths → Complete widths go e (make e)
 
   module _ (a b : Run) (f g : Vars → Form) (x : ExactForm a f) (y : ExactForm b g) where
     pub exact-both : ExactForm (inOrder a b) (λ e. let l = f e in let r = g (l .after) in form (l .body then r .body) (r .after))
@@ -53,7 +53,7 @@ module _ (ws : List ℕ) (sizes : AllWidths ws) where
           sound-both ws widths v a b e (f e) (g (f e .after)) (x .sound widths v fits e k (front-trans (y .steps _ kl .front) front)) (y .sound widths v fits _ kl front);
       complete = λ widths e k front.
           let kl = x .ready e k in
-          complete-both ws widths a b e (f e) (g (f e .after)) (x .steps e k .front .shorter) (y .steps _ kl .front .shorter)
+          complete-both widths a b e (f e) (g (f e .after)) (x .steps e k .front .shorter) (y .steps _ kl .front .shorter)
           (x .complete widths e k (front-trans (y .steps _ kl .front) front)) (y .complete widths _ kl front);
     }
 
@@ -63,26 +63,17 @@ module _ (ws : List ℕ) (sizes : AllWidths ws) where
     second e = g (beside e (f e .after))
 
     module _ (e : Vars) (k : Ready ws e) where
-      kl : Ready ws (f e .after)
-      kl = x .ready e k
+      beside-ready : Ready ws (beside e (f e .after))
+      beside-ready = ready-beside ws e (f e .after) k (x .ready e k) (x .steps e k)
 
-      -- the second side starts from the old variables, numbering on
-      ready-beside : Ready ws (beside e (f e .after))
-      ready-beside =
-          let front = x .steps e k .front in
-          record {
-            size = k .size;
-            low = λ i h. lt-of-lt-of-le (k .low i h) (front .shorter);
-            wide = λ i h. front .same (var e i) (k .low i h) ∙ k .wide i h;
-            apart = k .apart;
-            sized = kl .sized;
-          }
-
-      kr : Ready ws (second e .after)
-      kr = y .ready (beside e (f e .after)) ready-beside
-
-      right : Steps ws (beside e (f e .after)) (second e .after)
-      right = y .steps (beside e (f e .after)) ready-beside
+      sides : TwoSides ws e (f e .after) (second e .after)
+      sides = record {
+        before = k;
+        leftReady = x .ready e k;
+        rightReady = y .ready (beside e (f e .after)) beside-ready;
+        left = x .steps e k;
+        right = y .steps (beside e (f e .after)) beside-ready;
+      }
 
     -- the sides, as they stand in the joined form
     module _ (o : Origin) (first rest : Vars → Passive) where
@@ -92,22 +83,22 @@ module _ (ws : List ℕ) (sizes : AllWidths ws) where
       module _ (e : Vars) (k : Ready ws e) where
         ready-make : Ready ws (make e .after)
         unfolding join
-        ready-make = ready-joined ws rule laws sizes e (f e .after) (second e .after) k (kl e k) (kr e k) (x .steps e k) (right e k)
+        ready-make = ready-joined ws rule laws sizes e (f e .after) (second e .after) (sides e k)
 
         steps-make : Steps ws e (make e .after)
         unfolding join
-        steps-make = steps-joined ws rule laws sizes e (f e .after) (second e .after) k (kl e k) (kr e k) (x .steps e k) (right e k)
+        steps-make = steps-joined ws rule laws sizes e (f e .after) (second e .after) (sides e k)
 
         lengths : (length (f e .after .current) ≡ length (make e .after .current)) × (length (second e .after .current) ≡ length (make e .after .current))
-        lengths = (kl e k .size ∙ sym (ready-make .size), kr e k .size ∙ sym (ready-make .size))
+        lengths = (sides e k .leftReady .size ∙ sym (ready-make .size), sides e k .rightReady .size ∙ sym (ready-make .size))
 
         module _ (widths : List ℕ) (front : Front (make e .after .widths) widths) where
           front-right : Front (second e .after .widths) widths
           unfolding join
-          front-right = front-trans (front-append (second e .after .widths) _) front
+          front-right = joined-front ws rule e (f e .after) (second e .after) widths front
 
           front-left : Front (f e .after .widths) widths
-          front-left = front-trans (right e k .front) front-right
+          front-left = front-trans (sides e k .right .front) front-right
 
           front-before : Front (e .widths) widths
           front-before = front-trans (x .steps e k .front) front-left
@@ -125,7 +116,7 @@ module _ (ws : List ℕ) (sizes : AllWidths ws) where
 
           good-make : GoodPassive widths (first e) → GoodPassive widths (rest e) → GoodPassive widths (make e .body)
           unfolding join GoodPassive
-          good-make g h = (g, equations-good (f e .after) (kl e k) front-left, h, equations-good (second e .after) (kr e k) front-right)
+          good-make g h = (g, equations-good (f e .after) (sides e k .leftReady) front-left, h, equations-good (second e .after) (sides e k .rightReady) front-right)
 
         counted-make : (at m n : ℕ) → sizeAt (f e .body) m ≤ sizeAt (first e) at → sizeAt (second e .body) n ≤ sizeAt (rest e) (past at (emit (first e) at))
             → next (make e .after) ≤ next e + sizeAt (make e .body) at
@@ -136,7 +127,7 @@ module _ (ws : List ℕ) (sizes : AllWidths ws) where
             let xs = equations (f e .after .current) zs in
             let ys = equations (second e .after .current) zs in
             let older : (j : ℕ) → j < length (f e .after .current) → var (f e .after) j < next (second e .after) =
-            λ j b. lt-of-lt-of-le (kl e k .low j (rw (kl e k .size) at b)) (right e k .front .shorter) in
+            λ j b. lt-of-lt-of-le (sides e k .leftReady .low j (rw (sides e k .leftReady .size) at b)) (sides e k .right .front .shorter) in
             omega (
               arith,
               length-append (second e .after .widths) new,
@@ -145,7 +136,7 @@ module _ (ws : List ℕ) (sizes : AllWidths ws) where
               h,
               i,
               x .counted e k m,
-              y .counted _ (ready-beside e k) n,
+              y .counted _ (beside-ready e k) n,
             )
 
       -- what is left to show of either kind of choice, from what holds of its sides
@@ -159,7 +150,7 @@ module _ (ws : List ℕ) (sizes : AllWidths ws) where
             → (length (f e .after .current) ≡ length (make e .after .current)) × (length (second e .after .current) ≡ length (make e .after .current))
             → Sound ws widths v go e (make e)
         complete : (widths : List ℕ) (e : Vars) → Ready ws e → Front (e .widths) widths → Front (make e .after .widths) widths
-            → Complete ws widths a e (f e) → Complete ws widths b (beside e (f e .after)) (second e) → Complete ws widths go e (make e)
+            → Complete widths a e (f e) → Complete widths b (beside e (f e .after)) (second e) → Complete widths go e (make e)
 
       exact-sides : (go : Run) → Sides go → ExactForm go make
       exact-sides go s = record {
@@ -171,14 +162,14 @@ module _ (ws : List ℕ) (sizes : AllWidths ws) where
             counted-make e k at (l .0) (r .0) (l .1) (r .1);
         good = λ widths e k front.
             let g = s .good widths e k (front-before e k widths front)
-            (x .good widths e k (front-left e k widths front)) (y .good widths _ (ready-beside e k) (front-right e k widths front)) in
+            (x .good widths e k (front-left e k widths front)) (y .good widths _ (beside-ready e k) (front-right e k widths front)) in
             good-make e k widths front (g .0) (g .1);
         sound = λ widths v fits e k front.
             s .sound widths v e k (front-before e k widths front)
-            (x .sound widths v fits e k (front-left e k widths front)) (y .sound widths v fits _ (ready-beside e k) (front-right e k widths front)) (lengths e k);
+            (x .sound widths v fits e k (front-left e k widths front)) (y .sound widths v fits _ (beside-ready e k) (front-right e k widths front)) (lengths e k);
         complete = λ widths e k front.
             s .complete widths e k (front-before e k widths front) front
-            (x .complete widths e k (front-left e k widths front)) (y .complete widths _ (ready-beside e k) (front-right e k widths front));
+            (x .complete widths e k (front-left e k widths front)) (y .complete widths _ (beside-ready e k) (front-right e k widths front));
       }
 
     pub exact-choice : ExactForm (eitherOf a b) (λ e. join ws rule Origin.ofPipeline e (f e .body) (f e .after) (second e .body) (second e .after))
@@ -191,7 +182,7 @@ module _ (ws : List ℕ) (sizes : AllWidths ws) where
           good = λ widths e k front g h. (g, h);
           sound = λ widths v e k front l r n. sound-choice ws widths v a b rule e (f e) (second e) l r n;
           complete = λ widths e k before front l r.
-              complete-choice ws widths rule laws sizes e (f e) (second e) k (kl e k) (kr e k) (x .steps e k) (right e k) a b l r front;
+              complete-choice ws widths rule laws sizes e (f e) (second e) (sides e k) a b l r front;
         })
 
     -- the test t is over the fields, and m over the current variables
@@ -216,7 +207,7 @@ module _ (ws : List ℕ) (sizes : AllWidths ws) where
             sound = λ widths v e k front l r n.
                 sound-chain ws widths v a b rule e (f e) (second e) l r test (m e) (reads-truth ws widths e k front v t gt ∙ sym (same _)) n;
             complete = λ widths e k before front l r.
-                complete-chain ws widths rule laws sizes e (f e) (second e) k (kl e k) (kr e k) (x .steps e k) (right e k) a b l r test (m e)
+                complete-chain ws widths rule laws sizes e (f e) (second e) (sides e k) a b l r test (m e)
                 (λ v packet eq w d. still-truth ws widths e k before v packet eq t gt w d ∙ sym (same packet)) front;
           })
 
@@ -236,7 +227,7 @@ module _ (ws : List ℕ) (sizes : AllWidths ws) where
   -- a statement that leaves the variables as they are
   exact-still : (go : Run) (q : Vars → Passive)
       → ((widths : List ℕ) (e : Vars) → Ready ws e → Front (e .widths) widths
-      → GoodPassive widths (q e) × ((v : ℕ → ℕ) → Sound ws widths v go e (form (q e) e)) × Complete ws widths go e (form (q e) e))
+      → GoodPassive widths (q e) × ((v : ℕ → ℕ) → Sound ws widths v go e (form (q e) e)) × Complete widths go e (form (q e) e))
       → ExactForm go (λ e. form (q e) e)
   exact-still go q h = record {
     ready = λ e k. k;
@@ -254,12 +245,12 @@ module _ (ws : List ℕ) (sizes : AllWidths ws) where
 
     exact-fresh : (go : Run) (q : Vars → Passive) → ((e : Vars) (at : ℕ) → 1 ≤ sizeAt (q e) at)
         → ((widths : List ℕ) (e : Vars) → Ready ws e → Front (after e .widths) widths
-        → GoodPassive widths (q e) × ((v : ℕ → ℕ) → Fits widths v → Sound ws widths v go e (form (q e) (after e))) × Complete ws widths go e (form (q e) (after e)))
+        → GoodPassive widths (q e) × ((v : ℕ → ℕ) → Fits widths v → Sound ws widths v go e (form (q e) (after e))) × Complete widths go e (form (q e) (after e)))
         → ExactForm go (λ e. form (q e) (after e))
     exact-fresh go q some h = record {
       ready = λ e k. ready-fresh ws e i sizes there k;
       steps = λ e k. steps-fresh ws e i sizes there k;
-      counted = λ e k at. omega (arith, length-append (e .widths) (getD ws i 0 ∷ []), some e at);
+      counted = λ e k at. omega (arith, fresh-next e i (getD ws i 0), some e at);
       good = λ widths e k front. h widths e k front .0;
       sound = λ widths v fits e k front. h widths e k front .1 v fits;
       complete = λ widths e k front. h widths e k front .2;

@@ -140,8 +140,8 @@ module _ (p r : List ℕ) (w : WellFormed p r) (rule : JoinRule) (laws : JoinLaw
     unfolding passiveBy pipelineRun
     found-wrong choices used x =
         let c = exact-program p r w rule laws .complete all start start-ready (front-refl all) .meets first first-fits (state packet choices 0) first-packet in
-        let m : Extends (widths p) all start (made .after) first (Wrong (widths p) all (aim (widths p) all (made .body))) =
-        subst (Meets (widths p) all start (made .after) (aim (widths p) all (made .body)) first) (x .2) c in
+        let m : Extends all start (made .after) first (Wrong all (aim (made .body))) =
+        subst (Meets all start (made .after) (aim (made .body)) first) (x .2) c in
         let n = length all in
         let vs = each (m .to) n in
         let is : (y : ℕ) → y < n → getD vs y 0 ≡ m .to y = λ y k. each-at (m .to) n y 0 k in

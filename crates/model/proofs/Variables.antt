@@ -11,7 +11,7 @@ use lib.ListN.{getD, set, length, length-append, length-set, List·getD-append}
 use lib.Seq.{getD-append-seam, getD-set-same, getD-set-other}
 use borrow.Author.Tests.{eqb-true, eqb-false}
 use Rattle.model.specs.Good.{Width}
-use Rattle.model.specs.Passive.{Vars, next, fresh}
+use Rattle.model.specs.Passive.{Vars, next, fresh, beside}
 use Rattle.model.proofs.GoodForms.{AllWidths}
 
 -- the field's current variable
@@ -36,12 +36,15 @@ pub front-append : (l m : List ℕ) → Front l (l ++ m)
 front-append l m = record { shorter = omega (arith, length-append l m); same = λ x h. List·getD-append l m 0 x h }
 
 -- a new variable's number and width
+pub fresh-next : (e : Vars) (f w : ℕ) → suc (next e) ≡ next (fresh e f w)
+fresh-next e f w = omega (arith, length-append (e .widths) (w ∷ []))
+
 pub fresh-there : (e : Vars) (f w : ℕ) (widths : List ℕ) → Front (fresh e f w .widths) widths → next e < length widths
-fresh-there e f w widths front = omega (arith, length-append (e .widths) (w ∷ []), front .shorter)
+fresh-there e f w widths front = omega (arith, fresh-next e f w, front .shorter)
 
 pub fresh-width : (e : Vars) (f w : ℕ) (widths : List ℕ) → Front (fresh e f w .widths) widths → getD widths (next e) 0 ≡ w
 fresh-width e f w widths front =
-    front .same (next e) (omega (arith, length-append (e .widths) (w ∷ []))) ∙ getD-append-seam (e .widths) w [] 0
+    front .same (next e) (omega (arith, fresh-next e f w)) ∙ getD-append-seam (e .widths) w [] 0
 
 -- a place of a list in which one place was set: that one, or another
 pub set-cases : (l : List ℕ) (f a i : ℕ) → f < length l
@@ -86,6 +89,16 @@ module _ (ws : List ℕ) where
       go i (inr p) (inl q) = inr (rw q p)
       go i p (inr q) = inr (le-trans (x .front .shorter) q)
 
+  -- the second side of a choice starts from the old variables, numbering on
+  pub ready-beside : (e l : Vars) → Ready e → Ready l → Steps e l → Ready (beside e l)
+  ready-beside e l k kl steps = record {
+    size = k .size;
+    low = λ i h. lt-of-lt-of-le (k .low i h) (steps .front .shorter);
+    wide = λ i h. steps .front .same (var e i) (k .low i h) ∙ k .wide i h;
+    apart = k .apart;
+    sized = kl .sized;
+  }
+
   -- a new variable for the field f
   module _ (e : Vars) (f : ℕ) (sizes : AllWidths ws) (there : f < length ws) (k : Ready e) where
     abbrev after : Vars
@@ -97,12 +110,9 @@ module _ (ws : List ℕ) where
     cases : (i : ℕ) → Here i
     cases i = set-cases (e .current) f (next e) i (rw (k .size) there)
 
-    longer : suc (next e) ≡ next after
-    longer = omega (arith, length-append (e .widths) (getD ws f 0 ∷ []))
-
     fresh-low : (i : ℕ) → i < length ws → Here i → var after i < next after
-    fresh-low i h (inl x) = rw (x .1) (omega (arith, longer))
-    fresh-low i h (inr x) = rw (x .1) (omega (arith, longer, k .low i h))
+    fresh-low i h (inl x) = rw (x .1) (omega (arith, fresh-next e f (getD ws f 0)))
+    fresh-low i h (inr x) = rw (x .1) (omega (arith, fresh-next e f (getD ws f 0), k .low i h))
 
     fresh-wide : (i : ℕ) → i < length ws → Here i → getD (after .widths) (var after i) 0 ≡ getD ws i 0
     fresh-wide i h (inl x) = rw (x .1, x .0) (getD-append-seam (e .widths) (getD ws f 0) [] 0)
