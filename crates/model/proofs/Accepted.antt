@@ -29,9 +29,10 @@ use Rattle.model.proofs.Booleans.{both-true}
 use Rattle.model.proofs.Lists.{length-each, each-at}
 use Rattle.model.proofs.Every.{All, every-at, exists-at, all-each, all-those, all-ordered, all-with, build-past}
 use Rattle.model.proofs.KindNumbers.{kind-number}
+use Rattle.model.proofs.SortTests.{width-true}
 use Rattle.model.proofs.GoodForms.{AllWidths}
 use Rattle.model.proofs.Refusals.{clear}
-use Rattle.model.proofs.Sorts.{width-true, as-statement}
+use Rattle.model.proofs.Sorts.{as-statement}
 use Rattle.model.proofs.Decoded.{nodesUnder, under-below, PlacedAt, fits-at}
 
 -- the rows of Check's table, each at all its places

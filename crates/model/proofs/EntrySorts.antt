@@ -6,9 +6,9 @@ use mathlib.Core.Path.{_≡_, refl, sym, ap, _∙_}
 use mathlib.Core.Logic.{_⊎_, inl, inr, ⊎-elim}
 use mathlib.Core.Bool.{Bool, true, false, _&&_, false≢true}
 use mathlib.Core.List.{List}
-use lib.Dec.{eqb, ltb, leb}
+use lib.Dec.{ltb, leb}
 use lib.ListN.{getD, length}
-use borrow.Author.Tests.{eqb-true, lt-ltb, le-leb, ltb-true, ltb-false}
+use borrow.Author.Tests.{lt-ltb, le-leb, ltb-true, ltb-false}
 use Rattle.bits.specs.Width.{fits}
 use Rattle.model.specs.Lists.{if_then_else_, each, build, joined, times}
 use Rattle.model.specs.Blocks.{Node, node, words, plainNode}
@@ -22,6 +22,7 @@ use Rattle.model.proofs.Booleans.{both-true}
 use Rattle.model.proofs.Lists.{made, length-each, each-at}
 use Rattle.model.proofs.Every.{build-past, from-below}
 use Rattle.model.proofs.KindNumbers.{kind-or-unknown, entry-below, binary-allowed, compare-allowed, connect-allowed}
+use Rattle.model.proofs.SortTests.{only-formed, test-is, statement-is, alike-parts, value-formed}
 use Rattle.model.proofs.NodeList.{nodeCount-words, plainNode-words}
 use Rattle.model.proofs.Entries.{overEntries, expression-entry, length-condition, entryAt, Owned, each-entry, first-entry, owned-entries, last-entry}
 use Rattle.model.proofs.Formed.{step, sort, sort-before, node-sort}
@@ -35,10 +36,6 @@ formed-before f i x h = go (ltb x i) refl
     go : (b : Bool) → ltb x i ≡ b → x < i
     go true e = ltb-true x i e
     go false e = absurd (false≢true (rw (build-past f i x Sort.Malformed (ltb-false x i e)) at h))
-
-pub only-formed : (b : Bool) (s : Sort) → isFormed (only b s) ≡ true → (b ≡ true) × (isFormed s ≡ true)
-only-formed true s h = (refl, h)
-only-formed false s h = (cc, cc)
 
 -- the kind and the words of a formed node, and its sort
 pub record HasKind (stage : Stage) (ws : List ℕ) (before : List Sort) (m : Node) (k : Kind) : Type 0 where
@@ -83,41 +80,11 @@ value-kept (Sort.Value w) h = refl
 value-kept Sort.Test h = refl
 value-kept Sort.Statement h = cc
 
-pub value-is : (s : Sort) → isValue s ≡ true → s ≡ Sort.Value (widthOf s)
-value-is Sort.Malformed h = cc
-value-is (Sort.Value w) h = refl
-value-is Sort.Test h = cc
-value-is Sort.Statement h = cc
-
-pub test-is : (s : Sort) → isTest s ≡ true → s ≡ Sort.Test
-test-is Sort.Malformed h = cc
-test-is (Sort.Value w) h = cc
-test-is Sort.Test h = refl
-test-is Sort.Statement h = cc
-
-pub statement-is : (s : Sort) → isStatement s ≡ true → s ≡ Sort.Statement
-statement-is Sort.Malformed h = cc
-statement-is (Sort.Value w) h = cc
-statement-is Sort.Test h = cc
-statement-is Sort.Statement h = refl
-
-pub alike-parts : (s t : Sort) → alike s t ≡ true → (isValue s ≡ true) × (isValue t ≡ true)
-alike-parts s t h =
-    let k = both-true (isValue s) (eqb (widthOf s) (widthOf t)) h in
-    let e = eqb-true (widthOf s) (widthOf t) (k .1) in
-    (k .0, rw (← e) (k .0))
-
 entry-kept : (s : Sort) → isFormed s ≡ true → isFormed (entrySort s) ≡ true
 entry-kept Sort.Malformed h = h
 entry-kept (Sort.Value w) h = h
 entry-kept Sort.Test h = h
 entry-kept Sort.Statement h = h
-
-pub value-formed : (s : Sort) → isValue s ≡ true → isFormed s ≡ true
-value-formed Sort.Malformed h = h
-value-formed (Sort.Value w) h = refl
-value-formed Sort.Test h = refl
-value-formed Sort.Statement h = refl
 
 -- Over children that kept their sorts at new numbers, a value or a test keeps its own.
 module _ (ws : List ℕ) (g g′ : ℕ → Sort) (f : ℕ → ℕ) (value : (x : ℕ) → isValue (g x) ≡ true → g′ (f x) ≡ g x)

@@ -26,12 +26,11 @@ use Rattle.model.proofs.Booleans.{both-true}
 use Rattle.model.proofs.Lists.{length-build}
 use Rattle.model.proofs.Every.{All, all-places, build-related}
 use Rattle.model.proofs.KindNumbers.{kindOf-allowed}
+use Rattle.model.proofs.SortTests.{width-true, only-has, value-is, test-is, alike-parts}
 use Rattle.model.proofs.GoodForms.{AllWidths}
 use Rattle.model.proofs.Within.{within-at, within-of}
-use Rattle.model.proofs.Sorts.{width-true}
 use Rattle.model.proofs.Fits.{Sized, one-of}
 use Rattle.model.proofs.Formed.{sort, sorts-at}
-use Rattle.model.proofs.EntrySorts.{value-is, test-is}
 use Rattle.model.proofs.Accepts.{nodes-formed, nodes-end}
 
 -- What an entry's bits keep, by its sort: a value has the width of its sort and fits it, a test is 0 or 1 of width 0. A malformed entry's
@@ -51,8 +50,7 @@ fit s h = record { is = h }
 -- ---- sorts, by the tests that ask for them
 
 only-fit : (good : Bool) (s : Sort) {x : Bits} → (good ≡ true → Fit s x) → Fit (only good s) x
-only-fit true s h = h refl
-only-fit false s h = fit Sort.Malformed tt
+only-fit good s {x} h = only-has (λ s. Fit s x) (fit Sort.Malformed tt) good s h
 
 pub value-fit : {s : Sort} {x : Bits} → isValue s ≡ true → Fit s x → Width (widthOf s) × Sized x (widthOf s)
 value-fit {s} {x} e h = subst (λ (t : Sort). Fit t x) (value-is s e) h .is
@@ -78,10 +76,9 @@ record Same (s : Sort) (x y : Bits) : Type 0 where
 
 both-alike : {s t : Sort} {x y : Bits} → alike s t ≡ true → Fit s x → Fit t y → Same s x y
 both-alike {s} {t} e h k =
-    let b = both-true (isValue s) (eqb (widthOf s) (widthOf t)) e in
-    let q = eqb-true (widthOf s) (widthOf t) (b .1) in
+    let b = alike-parts s t e in
     let v = value-fit (b .0) h in
-    record { isOne = b .0; bounds = v .0; left = v .1; right = rw q (value-fit (rw (← q) (b .0)) k .1) }
+    record { isOne = b .0; bounds = v .0; left = v .1; right = rw (b .2) (value-fit (b .1) k .1) }
 
 bit-fit : (b : Bool) → Fit Sort.Test (bit b)
 bit-fit true = fit Sort.Test (refl, omega arith)

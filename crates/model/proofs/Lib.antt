@@ -6,6 +6,7 @@ pub mod Booleans
 pub mod Lists
 pub mod Every
 pub mod KindNumbers
+pub mod SortTests
 pub mod GoodForms
 pub mod Within
 -- what Check accepts is well formed

@@ -2,12 +2,12 @@
 -- Assumes nothing.
 use Prim.Native.Nat.{ℕ, _+_, _-_, _^_, _<_}
 use native.Mathlib.Omega.{arith}
-use mathlib.Core.Path.{_≡_, refl, sym, _∙_}
-use mathlib.Core.Bool.{Bool, true, false, _&&_, false≢true}
+use mathlib.Core.Path.{subst, _≡_, refl, sym, _∙_}
+use mathlib.Core.Bool.{Bool, true, _&&_}
 use mathlib.Core.List.{List, _++_}
-use lib.Dec.{eqb, ltb, leb}
+use lib.Dec.{ltb, leb}
 use lib.ListN.{getD, length}
-use borrow.Author.Tests.{eqb-true, ltb-true, leb-true, lt-ltb}
+use borrow.Author.Tests.{ltb-true, leb-true, lt-ltb}
 use Rattle.bits.specs.Width.{fits}
 use Rattle.model.specs.Nodes.{roles, childIn, widthOf, isTest, isStatement, isWidth, isValue, alike, only, sortBy}
 use Rattle.model.specs.Trees.{Val, Tree, asValue, asTest, asStatement, treeBy}
@@ -16,10 +16,8 @@ use Rattle.model.specs.declared.Kind.{Kind}
 use Rattle.model.specs.declared.Sort.{Sort}
 use Rattle.model.proofs.Booleans.{both-true}
 use Rattle.model.proofs.Every.{All}
+use Rattle.model.proofs.SortTests.{width-true, only-has, value-is, test-is, statement-is, alike-parts}
 use Rattle.model.proofs.GoodForms.{AllWidths}
-
-pub width-true : (w : ℕ) → isWidth w ≡ true → Width w
-width-true w e = let h = both-true (leb 1 w) (leb w 32) e in (leb-true 1 w (h .0), leb-true w 32 (h .1))
 
 module _ (ws : List ℕ) (tables : ℕ) where
   pub record Valued (w : ℕ) (t : Tree) : Type 0 where
@@ -27,47 +25,34 @@ module _ (ws : List ℕ) (tables : ℕ) where
     pub width : widthOfValue ws (asValue t) ≡ w
     pub bounds : Width w
 
-  abbrev pub Formed : Sort → Tree → Type 0
-  Formed Sort.Malformed t = Unit {0}
-  Formed (Sort.Value w) t = Valued w t
-  Formed Sort.Test t = GoodTest ws (asTest t)
-  Formed Sort.Statement t = Good ws tables (asStatement t)
+  abbrev pub GoodAs : Sort → Tree → Type 0
+  GoodAs Sort.Malformed t = Unit {0}
+  GoodAs (Sort.Value w) t = Valued w t
+  GoodAs Sort.Test t = GoodTest ws (asTest t)
+  GoodAs Sort.Statement t = Good ws tables (asStatement t)
 
   -- the tree is well formed and of the sort; what has no sort may be anything
   pub record OfSort (s : Sort) (t : Tree) : Type 0 where
-    pub formed : Formed s t
+    pub formed : GoodAs s t
 
-  pub fit : (s : Sort) {t : Tree} → Formed s t → OfSort s t
+  pub fit : (s : Sort) {t : Tree} → GoodAs s t → OfSort s t
   fit s h = record { formed = h }
 
   pub only-fits : (good : Bool) (s : Sort) {t : Tree} → (good ≡ true → OfSort s t) → OfSort (only good s) t
-  only-fits true s h = h refl
-  only-fits false s h = fit Sort.Malformed tt
+  only-fits good s {t} h = only-has (λ s. OfSort s t) (fit Sort.Malformed tt) good s h
 
   -- a sort that passes a test, read as what the test says
   as-value : {s : Sort} {t : Tree} → isValue s ≡ true → OfSort s t → Valued (widthOf s) t
-  as-value {s = Sort.Malformed} e h = absurd (false≢true e)
-  as-value {s = Sort.Value w} e h = h .formed
-  as-value {s = Sort.Test} e h = absurd (false≢true e)
-  as-value {s = Sort.Statement} e h = absurd (false≢true e)
+  as-value {s} {t} e h = subst (λ (s : Sort). OfSort s t) (value-is s e) h .formed
 
   of-value : (s : Sort) {t : Tree} → isValue s ≡ true → Valued (widthOf s) t → OfSort s t
-  of-value Sort.Malformed e h = absurd (false≢true e)
-  of-value (Sort.Value w) e h = fit (Sort.Value w) h
-  of-value Sort.Test e h = absurd (false≢true e)
-  of-value Sort.Statement e h = absurd (false≢true e)
+  of-value s {t} e h = subst (λ (s : Sort). OfSort s t) (sym (value-is s e)) (fit (Sort.Value (widthOf s)) h)
 
   as-test : {s : Sort} {t : Tree} → isTest s ≡ true → OfSort s t → GoodTest ws (asTest t)
-  as-test {s = Sort.Malformed} e h = absurd (false≢true e)
-  as-test {s = Sort.Value w} e h = absurd (false≢true e)
-  as-test {s = Sort.Test} e h = h .formed
-  as-test {s = Sort.Statement} e h = absurd (false≢true e)
+  as-test {s} {t} e h = subst (λ (s : Sort). OfSort s t) (test-is s e) h .formed
 
   pub as-statement : {s : Sort} {t : Tree} → isStatement s ≡ true → OfSort s t → Good ws tables (asStatement t)
-  as-statement {s = Sort.Malformed} e h = absurd (false≢true e)
-  as-statement {s = Sort.Value w} e h = absurd (false≢true e)
-  as-statement {s = Sort.Test} e h = absurd (false≢true e)
-  as-statement {s = Sort.Statement} e h = h .formed
+  as-statement {s} {t} e h = subst (λ (s : Sort). OfSort s t) (statement-is s e) h .formed
 
   -- two values of equal widths
   record Same (s : Sort) (x y : Tree) : Type 0 where
@@ -78,11 +63,10 @@ module _ (ws : List ℕ) (tables : ℕ) where
 
   both-alike : {s t : Sort} {x y : Tree} → alike s t ≡ true → OfSort s x → OfSort t y → Same s x y
   both-alike {s} {t} e h k =
-      let b = both-true (isValue s) (eqb (widthOf s) (widthOf t)) e in
-      let q = eqb-true (widthOf s) (widthOf t) (b .1) in
+      let b = alike-parts s t e in
       let hx = as-value (b .0) h in
-      let ky = as-value (rw (← q) (b .0)) k in
-      record { isOne = b .0; left = hx; right = ky .good; same = hx .width ∙ q ∙ sym (ky .width) }
+      let ky = as-value (b .1) k in
+      record { isOne = b .0; left = hx; right = ky .good; same = hx .width ∙ b .2 ∙ sym (ky .width) }
 
   -- a value whose width is that of the first of two
   over-same : {s : Sort} {x y : Tree} (t : Tree) → Same s x y → GoodValue ws (asValue t)

@@ -24,21 +24,20 @@ use Rattle.model.proofs.Booleans.{both-true}
 use Rattle.model.proofs.Lists.{made}
 use Rattle.model.proofs.Every.{All, made-has, build-has}
 use Rattle.model.proofs.KindNumbers.{number-low}
+use Rattle.model.proofs.SortTests.{width-true, only-has, only-formed, test-is, statement-is, alike-parts, value-formed}
 use Rattle.model.proofs.GoodForms.{AllWidths}
-use Rattle.model.proofs.Sorts.{width-true}
 use Rattle.model.proofs.Accepted.{accepted-good}
 use Rattle.model.proofs.Joins.{document-joins}
 use Rattle.model.proofs.Theorem.{form-sized, form-good, variables-counted}
 use Rattle.model.proofs.NodeList.{nodeCount-words, plainNode-words, gives-statement}
 use Rattle.model.proofs.Formed.{step, sort}
-use Rattle.model.proofs.EntrySorts.{formed-before, only-formed, formed-node, value-formed, test-is, statement-is, alike-parts, length-built, entries-formed}
+use Rattle.model.proofs.EntrySorts.{formed-before, formed-node, length-built, entries-formed}
 use Rattle.model.proofs.Accepts.{form-formed}
 
 -- ---- a sort's width is at most 32
 
 only-narrow : (b : Bool) (s : Sort) → (b ≡ true → widthOf s ≤ 32) → widthOf (only b s) ≤ 32
-only-narrow true s h = h refl
-only-narrow false s h = omega arith
+only-narrow = only-has (λ s. widthOf s ≤ 32) (omega arith)
 
 module _ (ws : List ℕ) (all : AllWidths ws) where
   module _ (g : ℕ → Sort) (narrow : (x : ℕ) → widthOf (g x) ≤ 32) where
@@ -88,12 +87,12 @@ module _ (ws : List ℕ) (all : AllWidths ws) where
 -- ---- a formed node's words
 
 -- what a word must be in its role, of node i; that an unused one is 0 is tested for every kind alike
-abbrev Fit : ℕ → Role → ℕ → Type 0
-Fit i child x = x < i
-Fit i number x = x < 2 ^ 32
-Fit i unused x = Unit {0}
+abbrev InRole : ℕ → Role → ℕ → Type 0
+InRole i child x = x < i
+InRole i number x = x < 2 ^ 32
+InRole i unused x = Unit {0}
 
-role-fits : (i : ℕ) (r : Role) (x : ℕ) → i ≤ 2 ^ 32 → zeroIn r x ≡ true → Fit i r x → x < 2 ^ 32
+role-fits : (i : ℕ) (r : Role) (x : ℕ) → i ≤ 2 ^ 32 → zeroIn r x ≡ true → InRole i r x → x < 2 ^ 32
 role-fits i child x h z f = omega arith
 role-fits i number x h z f = f
 role-fits i unused x h z f = omega (arith, eqb-true x 0 z)
@@ -118,16 +117,16 @@ module _ (ws : List ℕ) (few : length ws ≤ 2 ^ 32) (i : ℕ) (g : ℕ → Sor
   alike-before x y h = let v = alike-parts (g x) (g y) h in (value-before x (v .0), value-before y (v .1))
 
   -- the words of a node of a kind, each in its role
-  abbrev Fits : Kind → ℕ → ℕ → ℕ → Type 0
-  Fits k a b c = Fit i (roles k .a) a × Fit i (roles k .b) b × Fit i (roles k .c) c
+  abbrev InRoles : Kind → ℕ → ℕ → ℕ → Type 0
+  InRoles k a b c = InRole i (roles k .a) a × InRole i (roles k .b) b × InRole i (roles k .c) c
 
-  constant-fits : (a b c : ℕ) → isWidth b && fits b a ≡ true → Fits Kind.Constant a b c
+  constant-fits : (a b c : ℕ) → isWidth b && fits b a ≡ true → InRoles Kind.Constant a b c
   constant-fits a b c e =
       let h = both-true (isWidth b) (fits b a) e in
       let w = width-true b (h .0) in
       (lt-of-lt-of-le (ltb-true a (2 ^ b) (h .1)) (pow-mono (w .1)), omega arith, tt)
 
-  slice-fits : (a b c : ℕ) → ltb b (widthOf (g a)) && leb c b ≡ true → Fits Kind.Slice a b c
+  slice-fits : (a b c : ℕ) → ltb b (widthOf (g a)) && leb c b ≡ true → InRoles Kind.Slice a b c
   slice-fits a b c e =
       let h = both-true (ltb b (widthOf (g a))) (leb c b) e in
       let high = ltb-true b (widthOf (g a)) (h .0) in
@@ -135,25 +134,25 @@ module _ (ws : List ℕ) (few : length ws ≤ 2 ^ 32) (i : ℕ) (g : ℕ → Sor
       let w = narrow a in
       (value-before a (lt-ltb 0 (widthOf (g a)) (omega arith)), omega arith, omega arith)
 
-  join-fits : (a b c : ℕ) → isValue (g a) && isValue (g b) && leb (widthOf (g a) + widthOf (g b)) 32 ≡ true → Fits Kind.Join a b c
+  join-fits : (a b c : ℕ) → isValue (g a) && isValue (g b) && leb (widthOf (g a) + widthOf (g b)) 32 ≡ true → InRoles Kind.Join a b c
   join-fits a b c e =
       let h = both-true (isValue (g a) && isValue (g b)) (leb (widthOf (g a) + widthOf (g b)) 32) e in
       let v = both-true (isValue (g a)) (isValue (g b)) (h .0) in
       (value-before a (v .0), value-before b (v .1), tt)
 
-  select-fits : (a b c : ℕ) → isTest (g a) && alike (g b) (g c) ≡ true → Fits Kind.Select a b c
+  select-fits : (a b c : ℕ) → isTest (g a) && alike (g b) (g c) ≡ true → InRoles Kind.Select a b c
   select-fits a b c e =
       let h = both-true (isTest (g a)) (alike (g b) (g c)) e in
       let v = alike-before b c (h .1) in
       (test-before a (h .0), v .0, v .1)
 
-  assign-fits : (a b c : ℕ) → ltb a (length ws) && alike (g b) (Sort.Value (getD ws a 0)) ≡ true → Fits Kind.Assign a b c
+  assign-fits : (a b c : ℕ) → ltb a (length ws) && alike (g b) (Sort.Value (getD ws a 0)) ≡ true → InRoles Kind.Assign a b c
   assign-fits a b c e =
       let h = both-true (ltb a (length ws)) (alike (g b) (Sort.Value (getD ws a 0))) e in
       (omega (arith, ltb-true a (length ws) (h .0)), value-before b (alike-parts (g b) (Sort.Value (getD ws a 0)) (h .1) .0), tt)
 
   -- a parameter's number is checked against the actions, not here
-  kind-fits : (k : Kind) (a b c : ℕ) → (k ≡ Kind.Parameter → ⊥) → isFormed (sortBy ws 0 g k a b c) ≡ true → Fits k a b c
+  kind-fits : (k : Kind) (a b c : ℕ) → (k ≡ Kind.Parameter → ⊥) → isFormed (sortBy ws 0 g k a b c) ≡ true → InRoles k a b c
   kind-fits Kind.Constant a b c p e = constant-fits a b c (only-formed (isWidth b && fits b a) (Sort.Value b) e .0)
   kind-fits Kind.Field a b c p e = (omega (arith, ltb-true a (length ws) (only-formed (ltb a (length ws)) (Sort.Value (getD ws a 0)) e .0)), tt, tt)
   kind-fits Kind.Parameter a b c p e = absurd (p refl)
