@@ -3,17 +3,17 @@ use Prim.Native.Nat.{ℕ, zero, suc, _%_, _^_, _<_, _≤_}
 use native.Mathlib.Nat.{le-refl}
 use native.Mathlib.Omega.{arith}
 use mathlib.Core.Path.{_≡_, refl, sym, _∙_}
-use mathlib.Core.Bool.{Bool, true, false, _&&_, false≢true}
+use mathlib.Core.Bool.{Bool, true, _&&_, false≢true}
 use mathlib.Core.List.{List}
 use lib.Dec.{eqb, ltb, leb}
 use lib.ListN.{getD, length}
 use lib.Bits.{bitAnd, and-le-r}
 use lib.Pow.{pow-pos}
-use borrow.Author.Tests.{eqb-true, ltb-true, ltb-false, leb-true, lt-ltb, not-true}
+use borrow.Author.Tests.{eqb-true, ltb-true, leb-true, lt-ltb, not-true}
 use Rattle.bits.specs.Width.{fits, under}
 use Rattle.model.specs.Lists.{if_then_else_, within, word, each, every, exists, times, among, those}
 use Rattle.model.specs.Blocks.{F, N, A, T, R, root, size, pipelineLength, width, widths, Call, callAt, pipelineNode, body, parameterCount, parameterWidth, keyCount, key, defaultPlace, tableOf, value, mask, callPlace}
-use Rattle.model.specs.Nodes.{kinds, isWidth, isFormed, isStatement}
+use Rattle.model.specs.Nodes.{kinds, isWidth, isFormed, isStatement, sortOf}
 use Rattle.model.specs.Trees.{noData, program, called}
 use Rattle.model.specs.Good.{widthOfValue, GoodValue, GoodTest, Good}
 use Rattle.model.specs.Tables.{triedBefore, tried, callOf}
@@ -24,12 +24,13 @@ use Rattle.model.specs.Demands.{Clear, Accepted}
 use Rattle.model.specs.declared.Group.{Group}
 use Rattle.model.specs.declared.Hit.{Hit}
 use Rattle.model.specs.declared.Kind.{Kind}
+use Rattle.model.specs.declared.Stage.{Stage}
 use Rattle.model.specs.declared.Sort.{Sort}
 use Rattle.model.proofs.Booleans.{both-true}
 use Rattle.model.proofs.Lists.{length-each, each-at}
-use Rattle.model.proofs.Every.{All, every-at, exists-at, all-each, all-those, all-ordered, all-with, build-past}
+use Rattle.model.proofs.Every.{All, every-at, exists-at, all-each, all-those, all-ordered, all-with}
 use Rattle.model.proofs.KindNumbers.{kind-number}
-use Rattle.model.proofs.SortTests.{width-true}
+use Rattle.model.proofs.SortTests.{width-true, formed-before, statement-is}
 use Rattle.model.proofs.GoodForms.{AllWidths}
 use Rattle.model.proofs.Refusals.{clear}
 use Rattle.model.proofs.Sorts.{as-statement}
@@ -155,11 +156,9 @@ module _ (p : List ℕ) where
   -- a statement's number is a node's
   pub statement-below : (i : ℕ) → isStatement (sortAt (pipelineSorts p) i) ≡ true → i < N p
   unfolding pipelineSorts
-  statement-below i e = go (ltb i (N p)) refl
-    where
-      go : (b : Bool) → ltb i (N p) ≡ b → i < N p
-      go true k = ltb-true i (N p) k
-      go false k = absurd (false≢true (rw (build-past _ (N p) i Sort.Malformed (ltb-false i (N p) k)) at e))
+  statement-below i e =
+      let step : List Sort → ℕ → Sort = λ before j. sortOf Stage.Pipeline (widths p) (T p) before (pipelineNode p j) in
+      formed-before step (N p) i (rw (statement-is (sortAt (pipelineSorts p) i) e))
 
 zero-data : (a : ℕ) → getD noData a 0 ≡ 0
 zero-data zero = refl

@@ -1,28 +1,28 @@
 -- Condition builds the condition of a well-formed passive form, and Evaluate gives its truth. Assumes nothing.
-use Prim.Native.Nat.{ℕ, suc, _+_, _*_, _^_, _%_, _<_, _≤_}
+use Prim.Native.Nat.{ℕ, suc, _+_, _*_, _%_, _<_, _≤_}
 use native.Mathlib.Omega.{arith}
 use mathlib.Core.Path.{_≡_, refl}
 use mathlib.Core.Bool.{Bool, true, false}
 use mathlib.Core.List.{List, [], _∷_, _++_}
 use lib.Dec.{eqb, leb}
 use lib.ListN.{length}
-use borrow.Author.Tests.{eqb-true, eq-eqb, lt-ltb, le-leb, leb-true}
+use borrow.Author.Tests.{eqb-true, eq-eqb, le-leb, leb-true}
 use Rattle.model.specs.Lists.{if_then_else_, within, word}
 use Rattle.model.specs.Blocks.{Node, words, plainNode}
 use Rattle.model.specs.Nodes.{isTest, isStatement, isFormed}
 use Rattle.model.specs.Good.{Within}
-use Rattle.model.specs.Passive.{Passive, passive}
-use Rattle.model.specs.Emit.{emit, top, formLimit, passiveForm}
+use Rattle.model.specs.Passive.{Passive}
+use Rattle.model.specs.Emit.{emit, top, formLimit}
 use Rattle.model.specs.Condition.{nodeCount, conditionOf, lastTruth}
 use Rattle.model.specs.Answers.{done, told, yesOrNo}
 use Rattle.model.specs.Refusals.{entryLimit, lengthRow, widthRow, nodesRow, conditionRows, evaluateRows, lateRow}
 use Rattle.model.specs.Calls.{condition, evaluate, conditionTruth}
-use Rattle.model.specs.Demands.{WellBefore, Clear, Small, formWords, conditionWords, variableWidths}
+use Rattle.model.specs.Demands.{WellBefore, Clear}
 use Rattle.model.specs.declared.Stage.{Stage}
 use Rattle.model.specs.declared.Sort.{Sort}
 use Rattle.model.proofs.Booleans.{both-true}
 use Rattle.model.proofs.GoodForms.{AllWidths, GoodPassive}
-use Rattle.model.proofs.Within.{within-length, within-at}
+use Rattle.model.proofs.Within.{within-well}
 use Rattle.model.proofs.Refusals.{clear-judge}
 use Rattle.model.proofs.NodeList.{length-words, nodeCount-words, gives-statement, emitted-spans}
 use Rattle.model.proofs.Formed.{sort, sorts-at, Well, statement-well}
@@ -79,9 +79,9 @@ evaluate-clear form ws valuation lent lent′ c v h =
       (
         c .1 .0,
         (
-          λ j _. eq-eqb (length valuation) (length ws) (within-length ws valuation v),
+          λ j _. within-well ws valuation v .0,
           (
-            λ j k. lt-ltb (word valuation j) (2 ^ word ws j) (within-at ws valuation v j),
+            λ j _. within-well ws valuation v .1 j,
             (
               λ j _. le-leb (2 * nodeCount (words es)) lent′ (omega arith),
               (
@@ -110,7 +110,7 @@ module _ (q : Passive) (ws : List ℕ) (good : GoodPassive ws q) (all : AllWidth
   form-end : (i : ℕ) → suc i ≡ nodeCount formOf → isStatement (sort Stage.Passive ws (plainNode formOf) i) ≡ true
   form-end i e = let z : i ≡ top 0 (emit q 0) = omega (arith, nodeCount-words (emit q 0)) in rw (z, form-well .own)
 
-  pub condition-clear : length (emit q 0) ≤ formLimit → (lent : ℕ) → 4 * length (conditionOf formOf) ≤ lent → Clear (conditionRows formOf ws lent)
+  condition-clear : length (emit q 0) ≤ formLimit → (lent : ℕ) → 4 * length (conditionOf formOf) ≤ lent → Clear (conditionRows formOf ws lent)
   unfolding Clear
   condition-clear small lent h = (
     λ j _. length-well 18 formLimit j (emit q 0) (gives-statement (plainNode formOf) q .some 0) small,
@@ -123,25 +123,18 @@ module _ (q : Passive) (ws : List ℕ) (good : GoodPassive ws q) (all : AllWidth
     ),
   )
 
--- Demand 3's first two, of a form that is well formed
+  -- with room for it, Condition builds the condition, and Evaluate gives its truth
+  module _ (small : length (emit q 0) ≤ formLimit) (lent : ℕ) where
+    pub condition-built : 4 * length (conditionOf formOf) ≤ lent → condition formOf ws lent ≡ done (conditionOf formOf)
+    unfolding condition
+    condition-built h = rw (clear-judge (conditionRows formOf ws lent) (condition-clear small lent h))
 
-pub built : (p r : List ℕ) → GoodPassive (passive p r .after .widths) (passive p r .body) → AllWidths (passive p r .after .widths) → Small p r
-    → (lent : ℕ) → 4 * length (conditionOf (formWords p r)) ≤ lent
-    → condition (formWords p r) (variableWidths p r) lent ≡ done (conditionOf (formWords p r))
-unfolding condition passiveForm
-built p r good all small lent h =
-    let f = passive p r in
-    rw (clear-judge (conditionRows (words (emit (f .body) 0)) (f .after .widths) lent) (condition-clear (f .body) (f .after .widths) good all small lent h))
-
-pub valued : (p r valuation : List ℕ) → GoodPassive (passive p r .after .widths) (passive p r .body) → AllWidths (passive p r .after .widths) → Small p r
-    → Within (variableWidths p r) valuation → (lent : ℕ) → 2 * length (conditionOf (formWords p r)) ≤ lent
-    → told (λ xs. yesOrNo (lastTruth xs)) (evaluate (conditionWords p r) (variableWidths p r) valuation lent)
-    ≡ done (yesOrNo (conditionTruth (passiveForm p r) valuation))
-unfolding evaluate passiveForm conditionTruth
-valued p r valuation good all small v lent h =
-    let f = passive p r in
-    let nodes = words (emit (f .body) 0) in
-    let entries = words (conditionOf nodes) in
-    let rows = evaluateRows entries (f .after .widths) valuation lent ++ (lateRow entries (f .after .widths) ∷ []) in
-    let room = 4 * length (conditionOf nodes) in
-    rw (clear-judge rows (evaluate-clear nodes (f .after .widths) valuation room lent (condition-clear (f .body) (f .after .widths) good all small room (omega arith)) v h))
+    pub condition-valued : (valuation : List ℕ) → Within ws valuation → 2 * length (conditionOf formOf) ≤ lent
+        → told (λ xs. yesOrNo (lastTruth xs)) (evaluate (words (conditionOf formOf)) ws valuation lent)
+        ≡ done (yesOrNo (conditionTruth (record { nodes = emit q 0; widths = ws }) valuation))
+    unfolding evaluate conditionTruth
+    condition-valued valuation v h =
+        let entries = words (conditionOf formOf) in
+        let room = 4 * length (conditionOf formOf) in
+        let clear = evaluate-clear formOf ws valuation room lent (condition-clear small room (omega arith)) v h in
+        rw (clear-judge (evaluateRows entries ws valuation lent ++ (lateRow entries ws ∷ [])) clear)

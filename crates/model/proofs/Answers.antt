@@ -41,11 +41,11 @@ refusalAt n q =
     ∷ Refusal.Entry q ∷ Refusal.True ∷ Refusal.Condition q ∷ Refusal.Form q ∷ [])
     n Refusal.Counts
 
--- it is that of the table
+-- there is a refusal with that number and place
 abbrev pub Named : ℕ → ℕ → Type 0
 Named n q = refusalOf (refusalAt n q) ≡ refused n q
 
--- the answer that says so much
+-- the answer of which some values, or a number and a place, are said
 abbrev pub back : {A : Type 0} → (List ℕ → A) → (Refusal → A) → Answer (List ℕ) → A
 back made refusal (done xs) = made xs
 back made refusal (refused n q) = refusal (refusalAt n q)

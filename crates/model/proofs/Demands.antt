@@ -1,8 +1,8 @@
 -- Demand 3: the condition is exact, in both directions, from the words of the pipeline to the words of the condition. Assumes nothing.
-use Prim.Native.Nat.{ℕ}
+use Prim.Native.Nat.{ℕ, _+_, _^_, _≤_, _<_}
 use native.Mathlib.Omega.{arith}
 use mathlib.Core.Path.{_≡_, refl, sym, ap, _∙_}
-use mathlib.Core.Bool.{true, not}
+use mathlib.Core.Bool.{not}
 use mathlib.Core.List.{List, [], _∷_}
 use lib.ListN.{length}
 use borrow.Author.Tests.{not-false}
@@ -10,20 +10,22 @@ use Rattle.model.specs.Trees.{bitsIn}
 use Rattle.model.specs.Good.{Within}
 use Rattle.model.specs.Runs.{packetWidths}
 use Rattle.model.specs.Passive.{passive, newWhereDiffers}
-use Rattle.model.specs.Emit.{passiveForm}
+use Rattle.model.specs.Emit.{passiveForm, formLimit}
 use Rattle.model.specs.Walk.{goesWrong, packetOf, choicesOf}
-use Rattle.model.specs.Answers.{done}
-use Rattle.model.specs.Calls.{conditionTruth, confirm}
-use Rattle.model.specs.Demands.{FailsWith, Accepted, Falsifiable, CanFail, FalseUnder, Demand3, NotConstant, variableWidths}
+use Rattle.model.specs.Calls.{conditionTruth}
+use Rattle.model.specs.Demands.{FailsWith, Accepted, Small, formWords, conditionWords, Falsifiable, CanFail, FalseUnder, Demand3, NotConstant, variableWidths}
 use Rattle.model.specs.Examples.{bothFalse}
 use Rattle.model.proofs.Compute.{compute}
+use Rattle.model.proofs.Every.{All}
 use Rattle.model.proofs.GoodForms.{AllWidths, GoodPassive}
+use Rattle.model.proofs.Within.{within-length}
 use Rattle.model.proofs.Accepted.{WellFormed, accepted-good}
 use Rattle.model.proofs.Joins.{document-joins}
-use Rattle.model.proofs.Theorem.{form-sized, form-good, packet-within, taken-fails, found-wrong}
+use Rattle.model.proofs.Theorem.{form-sized, form-good, variables-counted, packet-within, taken-fails, found-wrong}
 use Rattle.model.proofs.Evaluation.{condition-truth}
-use Rattle.model.proofs.Accepts.{built, valued}
-use Rattle.model.proofs.Confirms.{confirm-yes}
+use Rattle.model.proofs.Accepts.{condition-built, condition-valued}
+use Rattle.model.proofs.WordsFit.{form-fits, condition-fits}
+use Rattle.model.proofs.Counterexamples.{extract-gives, confirm-yes}
 
 -- the condition's truth is that the form doesn't go wrong
 truth-is : (p r valuation : List ℕ) → conditionTruth (passiveForm p r) valuation ≡ not (goesWrong (bitsIn (variableWidths p r) valuation) (passive p r .body))
@@ -31,26 +33,25 @@ unfolding passiveForm
 truth-is p r valuation = condition-truth (passive p r .body) (passive p r .after .widths) valuation
 
 module _ (p r : List ℕ) (accepted : Accepted p r) where
+  abbrev all : List ℕ
+  all = passive p r .after .widths
+
   well : WellFormed p r
   well = accepted-good p r accepted
 
-  good : GoodPassive (passive p r .after .widths) (passive p r .body)
+  good : GoodPassive all (passive p r .body)
   good = form-good p r well newWhereDiffers document-joins
 
-  sized : AllWidths (passive p r .after .widths)
+  sized : AllWidths all
   sized = form-sized p r well newWhereDiffers document-joins
 
-  module _ (valuation : List ℕ) (within : Within (passive p r .after .widths) valuation) where
-    packet-fits : Within (packetWidths p) (packetOf p valuation)
-    packet-fits = packet-within p r well newWhereDiffers document-joins valuation within
+  module _ (valuation : List ℕ) (within : Within all valuation) where
+    packet-in : Within (packetWidths p) (packetOf p valuation)
+    packet-in = packet-within p r well newWhereDiffers document-joins valuation within
 
     fails : FalseUnder p r valuation → FailsWith p r (packetOf p valuation) (choicesOf p r valuation) (length (choicesOf p r valuation))
     unfolding passiveForm
     fails e = taken-fails p r well newWhereDiffers document-joins valuation within (not-false _ (sym (truth-is p r valuation) ∙ e))
-
-    -- so Confirm says yes
-    pub confirmed : FalseUnder p r valuation → confirm p r (packetOf p valuation) (choicesOf p r valuation) ≡ done true
-    confirmed e = confirm-yes p r (packetOf p valuation) accepted packet-fits (choicesOf p r valuation) (fails e)
 
   falsified : CanFail p r → Falsifiable p r
   unfolding passiveForm
@@ -61,14 +62,35 @@ module _ (p r : List ℕ) (accepted : Accepted p r) where
 pub demand3 : Demand3
 unfolding passiveForm
 demand3 = record {
-  built = λ p r accepted. built p r (good p r accepted) (sized p r accepted);
-  valued = λ p r valuation accepted. valued p r valuation (good p r accepted) (sized p r accepted);
+  built = λ p r accepted small lent. condition-built (passive p r .body) (all p r accepted) (good p r accepted) (sized p r accepted) small lent;
+  valued = λ p r valuation accepted small within lent.
+      condition-valued (passive p r .body) (all p r accepted) (good p r accepted) (sized p r accepted) small lent valuation within;
   exact = λ p r accepted small. (
-    λ x. (_, _, _, packet-fits p r accepted (x .0) (x .1), fails p r accepted (x .0) (x .1) (x .2)),
+    λ x. (_, _, _, packet-in p r accepted (x .0) (x .1), fails p r accepted (x .0) (x .1) (x .2)),
     falsified p r accepted,
   );
-  taken = λ p r valuation accepted small within e. (packet-fits p r accepted valuation within, fails p r accepted valuation within e);
+  taken = λ p r valuation accepted small within e. (packet-in p r accepted valuation within, fails p r accepted valuation within e);
+  extracted = λ p r valuation accepted small within e packetRoom choiceRoom h k.
+      extract-gives p r accepted small valuation within e packetRoom choiceRoom
+      (rw (within-length (packetWidths p) (packetOf p valuation) (packet-in p r accepted valuation within)) at h) k;
+  confirmed = λ p r valuation accepted small within e.
+      confirm-yes p r accepted (packetOf p valuation) (choicesOf p r valuation) (packet-in p r accepted valuation within) (fails p r accepted valuation within e);
 }
+
+-- the words that are written fit 32 bits
+module _ (p r : List ℕ) (accepted : Accepted p r) (small : Small p r) where
+  -- 32 fields, and at most one new variable a node
+  pub few-variables : length (variableWidths p r) ≤ 32 + formLimit
+  unfolding passiveForm
+  few-variables = let w = well p r accepted in omega (arith, variables-counted p r w newWhereDiffers document-joins, w .counts .mostFields)
+
+  pub form-words-fit : All (λ w. w < 2 ^ 32) (formWords p r)
+  unfolding passiveForm
+  form-words-fit = form-fits (passive p r .body) (all p r accepted) (good p r accepted) (sized p r accepted) small (omega (arith, few-variables))
+
+  pub condition-words-fit : All (λ w. w < 2 ^ 32) (conditionWords p r)
+  unfolding passiveForm
+  condition-words-fit = condition-fits (passive p r .body) (all p r accepted) (good p r accepted) (sized p r accepted) small (omega (arith, few-variables))
 
 -- examples 7 and 6
 pub not-constant : NotConstant

@@ -8,7 +8,7 @@ use mathlib.Core.Bool.{Bool, true, false, _&&_, false≢true}
 use mathlib.Core.List.{List}
 use lib.Dec.{ltb, leb}
 use lib.ListN.{getD, length}
-use borrow.Author.Tests.{lt-ltb, le-leb, ltb-true, ltb-false}
+use borrow.Author.Tests.{lt-ltb, le-leb, ltb-true}
 use Rattle.bits.specs.Width.{fits}
 use Rattle.model.specs.Lists.{if_then_else_, each, build, joined, times}
 use Rattle.model.specs.Blocks.{Node, node, words, plainNode}
@@ -20,22 +20,14 @@ use Rattle.model.specs.declared.Stage.{Stage}
 use Rattle.model.specs.declared.Sort.{Sort}
 use Rattle.model.proofs.Booleans.{both-true}
 use Rattle.model.proofs.Lists.{made, length-each, each-at}
-use Rattle.model.proofs.Every.{build-past, from-below}
+use Rattle.model.proofs.Every.{from-below}
 use Rattle.model.proofs.KindNumbers.{kind-or-unknown, entry-below, binary-allowed, compare-allowed, connect-allowed}
-use Rattle.model.proofs.SortTests.{only-formed, test-is, statement-is, alike-parts, value-formed}
+use Rattle.model.proofs.SortTests.{only-formed, test-is, statement-is, alike-parts, value-formed, formed-before}
 use Rattle.model.proofs.NodeList.{nodeCount-words, plainNode-words}
 use Rattle.model.proofs.Entries.{overEntries, expression-entry, length-condition, entryAt, Owned, each-entry, first-entry, owned-entries, last-entry}
 use Rattle.model.proofs.Formed.{step, sort, sort-before, node-sort}
 
 -- ---- what a formed node is
-
--- a formed child stands before its parent
-pub formed-before : (f : List Sort → ℕ → Sort) (i x : ℕ) → isFormed (getD (build f i) x Sort.Malformed) ≡ true → x < i
-formed-before f i x h = go (ltb x i) refl
-  where
-    go : (b : Bool) → ltb x i ≡ b → x < i
-    go true e = ltb-true x i e
-    go false e = absurd (false≢true (rw (build-past f i x Sort.Malformed (ltb-false x i e)) at h))
 
 -- the kind and the words of a formed node, and its sort
 pub record HasKind (stage : Stage) (ws : List ℕ) (before : List Sort) (m : Node) (k : Kind) : Type 0 where
@@ -86,7 +78,7 @@ entry-kept (Sort.Value w) h = h
 entry-kept Sort.Test h = h
 entry-kept Sort.Statement h = h
 
--- Over children that kept their sorts at new numbers, a value or a test keeps its own.
+-- Over children that sort-kept their sorts at new numbers, a value or a test keeps its own.
 module _ (ws : List ℕ) (g g′ : ℕ → Sort) (f : ℕ → ℕ) (value : (x : ℕ) → isValue (g x) ≡ true → g′ (f x) ≡ g x)
     (test : (x : ℕ) → isTest (g x) ≡ true → g′ (f x) ≡ g x) where
   abbrev Keeps : Kind → ℕ → ℕ → ℕ → Type 0
@@ -115,38 +107,38 @@ module _ (ws : List ℕ) (g g′ : ℕ → Sort) (f : ℕ → ℕ) (value : (x :
       let v = alike-parts (g b) (g c) (t .1) in
       rw (test a (t .0), value b (v .0), value c (v .1), q, value-kept (g b) (v .0))
 
-  kept : (k : Kind) (a b c : ℕ) → allowed Stage.Condition (numberOf k) ≡ true → Keeps k a b c
+  sort-kept : (k : Kind) (a b c : ℕ) → allowed Stage.Condition (numberOf k) ≡ true → Keeps k a b c
   unfolding times
-  kept Kind.Constant a b c h e = rw (only-formed (isWidth b && fits b a) (Sort.Value b) e .0)
-  kept Kind.Field a b c h e = rw (only-formed (ltb a (length ws)) (Sort.Value (getD ws a 0)) e .0)
-  kept Kind.Parameter a b c h e = cc
-  kept (Kind.Binary o) a b c h e =
+  sort-kept Kind.Constant a b c h e = rw (only-formed (isWidth b && fits b a) (Sort.Value b) e .0)
+  sort-kept Kind.Field a b c h e = rw (only-formed (ltb a (length ws)) (Sort.Value (getD ws a 0)) e .0)
+  sort-kept Kind.Parameter a b c h e = cc
+  sort-kept (Kind.Binary o) a b c h e =
       let q = only-formed (alike (g a) (g b)) (g a) e .0 in
       let v = alike-parts (g a) (g b) q in
       rw (value a (v .0), value b (v .1), q, value-kept (g a) (v .0))
-  kept Kind.Complement a b c h e = let q = only-formed (isValue (g a)) (g a) e .0 in rw (value a q, q, value-kept (g a) q)
-  kept Kind.Slice a b c h e = slice-kept a b c e
-  kept Kind.Join a b c h e = join-kept a b c e
-  kept Kind.Select a b c h e = select-kept a b c e
-  kept Kind.Truth a b c h e = rw (only-formed (leb a 1) Sort.Test e .0)
-  kept (Kind.Compare o) a b c h e =
+  sort-kept Kind.Complement a b c h e = let q = only-formed (isValue (g a)) (g a) e .0 in rw (value a q, q, value-kept (g a) q)
+  sort-kept Kind.Slice a b c h e = slice-kept a b c e
+  sort-kept Kind.Join a b c h e = join-kept a b c e
+  sort-kept Kind.Select a b c h e = select-kept a b c e
+  sort-kept Kind.Truth a b c h e = rw (only-formed (leb a 1) Sort.Test e .0)
+  sort-kept (Kind.Compare o) a b c h e =
       let q = only-formed (alike (g a) (g b)) Sort.Test e .0 in
       let v = alike-parts (g a) (g b) q in
       rw (value a (v .0), value b (v .1), q)
-  kept Kind.Not a b c h e = let q = only-formed (isTest (g a)) Sort.Test e .0 in rw (test a q, q)
-  kept (Kind.Connect o) a b c h e =
+  sort-kept Kind.Not a b c h e = let q = only-formed (isTest (g a)) Sort.Test e .0 in rw (test a q, q)
+  sort-kept (Kind.Connect o) a b c h e =
       let q = only-formed (isTest (g a) && isTest (g b)) Sort.Test e .0 in
       let t = both-true (isTest (g a)) (isTest (g b)) q in
       rw (test a (t .0), test b (t .1), q)
-  kept Kind.Skip a b c h e = cc
-  kept Kind.Assign a b c h e = cc
-  kept Kind.Havoc a b c h e = cc
-  kept Kind.Assume a b c h e = cc
-  kept Kind.Assert a b c h e = cc
-  kept Kind.Sequence a b c h e = cc
-  kept Kind.Choice a b c h e = cc
-  kept Kind.Apply a b c h e = cc
-  kept Kind.Unknown a b c h e = refl
+  sort-kept Kind.Skip a b c h e = cc
+  sort-kept Kind.Assign a b c h e = cc
+  sort-kept Kind.Havoc a b c h e = cc
+  sort-kept Kind.Assume a b c h e = cc
+  sort-kept Kind.Assert a b c h e = cc
+  sort-kept Kind.Sequence a b c h e = cc
+  sort-kept Kind.Choice a b c h e = cc
+  sort-kept Kind.Apply a b c h e = cc
+  sort-kept Kind.Unknown a b c h e = refl
 
 zero-kept : (f : ℕ → ℕ) (r : Role) (x : ℕ) → zeroIn r (renumberedIn f r x) ≡ zeroIn r x
 zero-kept f child x = refl
@@ -172,9 +164,6 @@ module _ (ws : List ℕ) (nodes entries : ℕ → Node) (n : ℕ)
     pub second : sortOfEntry (3 * i + 1) ≡ Sort.Test
     pub third : sortOfEntry (3 * i + 2) ≡ Sort.Test
 
-  read : (j x : ℕ) {s : Sort} → x < j → sortOfEntry x ≡ s → getD (build (step Stage.Condition ws entries) j) x Sort.Malformed ≡ s
-  read j x h e = sort-before Stage.Condition ws entries j x h e
-
   truth-sort : (j a : ℕ) → a ≤ 1 → entries j ≡ node 16 a 0 0 → sortOfEntry j ≡ Sort.Test
   unfolding times
   truth-sort j a h e = node-sort Stage.Condition ws entries Kind.Truth refl refl e ∙ rw (le-leb a 1 h)
@@ -184,11 +173,11 @@ module _ (ws : List ℕ) (nodes entries : ℕ → Node) (n : ℕ)
 
   not-sort : (j : ℕ) {x : ℕ} → x < j → sortOfEntry x ≡ Sort.Test → entries j ≡ notEntry x → sortOfEntry j ≡ Sort.Test
   unfolding times
-  not-sort j {x} h s e = node-sort Stage.Condition ws entries Kind.Not refl refl e ∙ rw (read j x h s)
+  not-sort j {x} h s e = node-sort Stage.Condition ws entries Kind.Not refl refl e ∙ rw (sort-before Stage.Condition ws entries j x h s)
 
   connect-sort : (o : Connective) (j : ℕ) {x y : ℕ} → x < j → y < j → sortOfEntry x ≡ Sort.Test → sortOfEntry y ≡ Sort.Test
       → entries j ≡ node (numberOf (Kind.Connect o)) x y 0 → sortOfEntry j ≡ Sort.Test
-  connect-sort o j {x} {y} h k s t e = node-sort Stage.Condition ws entries (Kind.Connect o) (connect-allowed o) refl e ∙ rw (read j x h s, read j y k t)
+  connect-sort o j {x} {y} h k s t e = node-sort Stage.Condition ws entries (Kind.Connect o) (connect-allowed o) refl e ∙ rw (sort-before Stage.Condition ws entries j x h s, sort-before Stage.Condition ws entries j y k t)
 
   -- node i over the entries of the nodes before it
   module _ (i : ℕ) (l : i < n) (before : (x : ℕ) → x < i → Owns x) where
@@ -208,7 +197,7 @@ module _ (ws : List ℕ) (nodes entries : ℕ → Node) (n : ℕ)
 
     -- a value's or a test's first entry keeps its sort
     child-kept : (x : ℕ) → isFormed (own x) ≡ true → entrySort (own x) ≡ own x → entryOwn (3 * x) ≡ own x
-    child-kept x f e = read (3 * i) (3 * x) (omega (arith, there x f)) (child-first x f ∙ e)
+    child-kept x f e = sort-before Stage.Condition ws entries (3 * i) (3 * x) (omega (arith, there x f)) (child-first x f ∙ e)
 
     test-child : (x : ℕ) → isTest (own x) ≡ true → (x < i) × (sortOfEntry (3 * x) ≡ Sort.Test)
     test-child x h = let e = test-is (own x) h in let f : isFormed (own x) ≡ true = rw e in (there x f, child-first x f ∙ rw e)
@@ -242,7 +231,7 @@ module _ (ws : List ℕ) (nodes entries : ℕ → Node) (n : ℕ)
           let zeros = zeros-kept k m (known .zeros) in
           let e = first-entry owned l (known .is) ∙ expression-entry k i (m .a) (m .b) (m .c) h in
           record {
-            first = node-sort Stage.Condition ws entries k h zeros e ∙ kept ws own entryOwn on value test k (m .a) (m .b) (m .c) h (known .good) ∙ ap entrySort (sym its-sort);
+            first = node-sort Stage.Condition ws entries k h zeros e ∙ sort-kept ws own entryOwn on value test k (m .a) (m .b) (m .c) h (known .good) ∙ ap entrySort (sym its-sort);
             second = no-sort (3 * i + 1) (each-entry owned 1 (omega arith) l (known .is) ∙ rw (entry-below (numberOf k) h));
             third = no-sort (3 * i + 2) (each-entry owned 2 (omega arith) l (known .is) ∙ rw (entry-below (numberOf k) h));
           }

@@ -18,6 +18,7 @@ use Rattle.model.specs.Calls.{conditionTruth}
 use Rattle.model.specs.declared.Connective.{Connective}
 use Rattle.model.specs.declared.Kind.{Kind}
 use Rattle.model.specs.declared.Stage.{Stage}
+use Rattle.model.proofs.Booleans.{and-self, and-true, and-assoc, no-more-wrong}
 use Rattle.model.proofs.Lists.{made, build-at, build-last}
 use Rattle.model.proofs.KindNumbers.{kindOf-number, binary-allowed, compare-allowed, connect-allowed}
 use Rattle.model.proofs.NodeList.{nodeCount-words, SpansValue, SpansTest, Tied, tied-order, SpansStatement, gives-statement, emitted-spans, equality}
@@ -28,23 +29,6 @@ use Rattle.model.proofs.Entries.{overEntries, expression-entry, length-
 is-bit : (b : Bool) → isOn (bit b) ≡ b
 is-bit true = refl
 is-bit false = refl
-
-and-self : (a : Bool) → a && a ≡ a
-and-self true = refl
-and-self false = refl
-
-and-true : (a : Bool) → a && true ≡ a
-and-true true = refl
-and-true false = refl
-
-and-assoc : (a b c : Bool) → (a && b) && c ≡ a && (b && c)
-and-assoc true b c = refl
-and-assoc false b c = refl
-
-no-more-wrong : (w p : Bool) → w || (p && false) ≡ w
-no-more-wrong true p = refl
-no-more-wrong false true = refl
-no-more-wrong false false = refl
 
 -- ---- an entry over the entries before it
 

@@ -52,8 +52,8 @@ from-below P step i = step i (upTo i)
     upTo zero j h = absurd (not-suc-le-zero h)
     upTo (suc n) j h = step j (λ m k. upTo n m (lt-of-lt-of-le k (le-of-suc-le-suc h)))
 
--- What relates the elements of two lists made front to back: it relates each two where it does all before them, and so what stands past
--- the ends.
+-- What relates the elements of two lists made front to back, where it relates what stands past the ends, and each two where it does all
+-- before them.
 module _ {A B : Type 0} (f : List A → ℕ → A) (g : List B → ℕ → B) (R : A → B → Type 0) (a : A) (b : B) (past : R a b) where
   build-before-related : (n x : ℕ) → ((j : ℕ) → j < n → R (made f j) (made g j)) → R (getD (build f n) x a) (getD (build g n) x b)
   build-before-related n x h = go (ltb x n) refl

@@ -44,6 +44,6 @@ pub mod EntrySorts
 pub mod Accepts
 pub mod WordsFit
 pub mod EvaluatedFits
-pub mod Confirms
 -- demand 3
+pub mod Counterexamples
 pub mod Demands

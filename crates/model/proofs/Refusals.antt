@@ -5,7 +5,7 @@ use native.Mathlib.Omega.{arith}
 use mathlib.Core.Path.{_≡_, refl}
 use mathlib.Core.Logic.{_↔_, _⊎_, inl, inr, ⊎-elim}
 use mathlib.Core.Bool.{Bool, true, false}
-use mathlib.Core.List.{List, [], _∷_}
+use mathlib.Core.List.{List, [], _∷_, _++_}
 use mathlib.Core.Option.{Option, none, some}
 use Rattle.model.specs.Lists.{if_then_else_, earlier, firstNot}
 use Rattle.model.specs.Answers.{done, refused}
@@ -78,3 +78,8 @@ clear-judge (row ∷ rows) h = go (firstNot (row .well) (row .count)) (found (ro
     go : (o : Option ℕ) → Found (row .well) (row .count) o → judge rows ≡ done tt → given row o (judge rows) ≡ done tt
     go none f k = k
     go (some i) f k = absurd (omega (arith, f .0, not-before (row .well) i (row .count) (f .1) (h .0)))
+
+pub clear-append : (rows more : List Row) → Clear rows → Clear more → Clear (rows ++ more)
+unfolding Clear
+clear-append [] more h k = k
+clear-append (row ∷ rows) more h k = (h .0, clear-append rows more (h .1) k)

@@ -1,13 +1,17 @@
 -- What a sort is that passes a test, and what holds of a sort that a test makes malformed. Assumes nothing.
-use Prim.Native.Nat.{ℕ}
+use Prim.Native.Nat.{ℕ, _<_}
 use mathlib.Core.Path.{_≡_, refl}
-use mathlib.Core.Bool.{Bool, true, false}
-use lib.Dec.{eqb, leb}
-use borrow.Author.Tests.{eqb-true, leb-true}
+use mathlib.Core.Bool.{Bool, true, false, false≢true}
+use mathlib.Core.List.{List}
+use lib.Dec.{eqb, ltb, leb}
+use lib.ListN.{getD}
+use borrow.Author.Tests.{eqb-true, leb-true, ltb-true, ltb-false}
+use Rattle.model.specs.Lists.{build}
 use Rattle.model.specs.Nodes.{widthOf, isTest, isStatement, isFormed, isWidth, isValue, alike, only}
 use Rattle.model.specs.Good.{Width}
 use Rattle.model.specs.declared.Sort.{Sort}
 use Rattle.model.proofs.Booleans.{both-true}
+use Rattle.model.proofs.Every.{build-past}
 
 pub width-true : (w : ℕ) → isWidth w ≡ true → Width w
 width-true w e = let h = both-true (leb 1 w) (leb w 32) e in (leb-true 1 w (h .0), leb-true w 32 (h .1))
@@ -50,3 +54,11 @@ value-formed Sort.Malformed h = h
 value-formed (Sort.Value w) h = refl
 value-formed Sort.Test h = refl
 value-formed Sort.Statement h = refl
+
+-- where a list of sorts is made front to back, only a place before has a sort
+pub formed-before : (f : List Sort → ℕ → Sort) (i x : ℕ) → isFormed (getD (build f i) x Sort.Malformed) ≡ true → x < i
+formed-before f i x h = go (ltb x i) refl
+  where
+    go : (b : Bool) → ltb x i ≡ b → x < i
+    go true e = ltb-true x i e
+    go false e = absurd (false≢true (rw (build-past f i x Sort.Malformed (ltb-false x i e)) at h))

@@ -42,11 +42,11 @@ first-values vs n h =
     getD-map v ids i (rw length-each b) ∙ ap v (each-at (λ i. i) n i 0 b) ∙ sym (getD-take n vs i 0 b))
 
 module _ (p r : List ℕ) (w : WellFormed p r) (rule : JoinRule) (laws : JoinLaws rule) where
-  abbrev made : Form
-  made = passiveBy p r rule
+  abbrev whole : Form
+  whole = passiveBy p r rule
 
   abbrev all : List ℕ
-  all = made .after .widths
+  all = whole .after .widths
 
   abbrev start : Vars
   start = vars (each (λ i. i) (F p)) (widths p)
@@ -73,12 +73,12 @@ module _ (p r : List ℕ) (w : WellFormed p r) (rule : JoinRule) (laws : JoinLaw
   unfolding passiveBy
   form-sized = exact-program p r w rule laws .ready start start-ready .sized
 
-  pub form-good : GoodPassive all (made .body)
+  pub form-good : GoodPassive all (whole .body)
   unfolding passiveBy
   form-good = exact-program p r w rule laws .good all start start-ready (front-refl all)
 
   -- V is at most F + n
-  pub variables-counted : length all ≤ F p + length (emit (made .body) 0)
+  pub variables-counted : length all ≤ F p + length (emit (whole .body) 0)
   unfolding passiveBy
   variables-counted = omega (arith, exact-program p r w rule laws .counted start start-ready 0, w .widthsLength)
 
@@ -86,7 +86,7 @@ module _ (p r : List ℕ) (w : WellFormed p r) (rule : JoinRule) (laws : JoinLaw
   packetIn valuation = take (length (widths p)) valuation
 
   abbrev choicesIn : List ℕ → List ℕ
-  choicesIn valuation = walkWrong (bitsIn all valuation) (made .body)
+  choicesIn valuation = walkWrong (bitsIn all valuation) (whole .body)
 
   module _ (valuation : List ℕ) (h : Within all valuation) where
     enough : length (widths p) ≤ length valuation
@@ -98,7 +98,7 @@ module _ (p r : List ℕ) (w : WellFormed p r) (rule : JoinRule) (laws : JoinLaw
         (λ i k. rw (getD-take (length (widths p)) valuation i 0 k, ← front-start .same i k) (within-at all valuation h i))
 
     -- from every valuation at which the form goes wrong comes a run that fails, with no entry left over
-    pub taken-fails : goesWrong (bitsIn all valuation) (made .body) ≡ true
+    pub taken-fails : goesWrong (bitsIn all valuation) (whole .body) ≡ true
         → FailsWith p r (packetIn valuation) (choicesIn valuation) (length (choicesIn valuation))
     unfolding passiveBy pipelineRun
     taken-fails o =
@@ -134,14 +134,14 @@ module _ (p r : List ℕ) (w : WellFormed p r) (rule : JoinRule) (laws : JoinLaw
         let k : length (packetIn vs) ≡ n = length-take-le n vs (omega (arith, e, front-start .shorter)) in
         ext-getD 0 (packetIn vs) packet (k ∙ sym (within-length (widths p) packet h)) (λ i b. getD-take n vs i 0 (rw k at b) ∙ is i (rw k at b))
 
-    -- with that packet
+    -- the valuation holds the run's packet
     pub found-wrong : (choices : List ℕ) (used : ℕ) → FailsWith p r packet choices used
-        → (valuation : List ℕ) × Within all valuation × (packetIn valuation ≡ packet) × (goesWrong (bitsIn all valuation) (made .body) ≡ true)
+        → (valuation : List ℕ) × Within all valuation × (packetIn valuation ≡ packet) × (goesWrong (bitsIn all valuation) (whole .body) ≡ true)
     unfolding passiveBy pipelineRun
     found-wrong choices used x =
         let c = exact-program p r w rule laws .complete all start start-ready (front-refl all) .meets first first-fits (state packet choices 0) first-packet in
-        let m : Extends all start (made .after) first (Wrong all (aim (made .body))) =
-        subst (Meets all start (made .after) (aim (made .body)) first) (x .2) c in
+        let m : Extends all start (whole .after) first (Wrong all (aim (whole .body))) =
+        subst (Meets all start (whole .after) (aim (whole .body)) first) (x .2) c in
         let n = length all in
         let vs = each (m .to) n in
         let is : (y : ℕ) → y < n → getD vs y 0 ≡ m .to y = λ y k. each-at (m .to) n y 0 k in

@@ -3,9 +3,14 @@ use Prim.Native.Nat.{ℕ, zero, suc, _^_, _<_, suc-le-suc}
 use native.Mathlib.Nat.{zero-lt-suc, suc-inj}
 use native.Mathlib.Omega.{arith}
 use mathlib.Core.Path.{_≡_, refl, ap}
+use mathlib.Core.Bool.{true}
 use mathlib.Core.List.{List, [], _∷_}
+use lib.Dec.{eqb}
 use lib.ListN.{getD, length}
 use lib.Pow.{pow-pos}
+use borrow.Author.Tests.{eq-eqb, lt-ltb}
+use Rattle.bits.specs.Width.{fits}
+use Rattle.model.specs.Lists.{word}
 use Rattle.model.specs.Good.{Within}
 
 pub within-length : (ws ns : List ℕ) → Within ws ns → length ns ≡ length ws
@@ -27,3 +32,7 @@ within-of [] [] e f = tt
 within-of [] (n ∷ ns) e f = let z : ⊥ = omega arith in absurd z
 within-of (w ∷ ws) [] e f = let z : ⊥ = omega arith in absurd z
 within-of (w ∷ ws) (n ∷ ns) e f = (f zero (zero-lt-suc _), within-of ws ns (suc-inj e) (λ i h. f (suc i) (suc-le-suc h)))
+
+-- the tests of 11 and of 13
+pub within-well : (ws ns : List ℕ) → Within ws ns → (eqb (length ns) (length ws) ≡ true) × ((i : ℕ) → fits (word ws i) (word ns i) ≡ true)
+within-well ws ns h = (eq-eqb (length ns) (length ws) (within-length ws ns h), λ i. lt-ltb (word ns i) (2 ^ word ws i) (within-at ws ns h i))

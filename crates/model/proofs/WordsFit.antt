@@ -13,10 +13,9 @@ use Rattle.bits.specs.Width.{fits}
 use Rattle.model.specs.Lists.{build, times}
 use Rattle.model.specs.Blocks.{Node, words, plainNode}
 use Rattle.model.specs.Nodes.{kindOf, allowed, Role, child, number, unused, roles, zeroIn, unusedZero, widthOf, isTest, isStatement, isFormed, isWidth, isValue, alike, only, sortBy, sortOf}
-use Rattle.model.specs.Passive.{newWhereDiffers, passive}
-use Rattle.model.specs.Emit.{formLimit, passiveForm}
-use Rattle.model.specs.Condition.{no, conditionOf, nodeCount}
-use Rattle.model.specs.Demands.{Accepted, Small, formWords, conditionWords, variableWidths}
+use Rattle.model.specs.Passive.{Passive}
+use Rattle.model.specs.Emit.{formLimit, emit}
+use Rattle.model.specs.Condition.{no, conditionOf}
 use Rattle.model.specs.declared.Kind.{Kind}
 use Rattle.model.specs.declared.Stage.{Stage}
 use Rattle.model.specs.declared.Sort.{Sort}
@@ -24,14 +23,11 @@ use Rattle.model.proofs.Booleans.{both-true}
 use Rattle.model.proofs.Lists.{made}
 use Rattle.model.proofs.Every.{All, made-has, build-has}
 use Rattle.model.proofs.KindNumbers.{number-low}
-use Rattle.model.proofs.SortTests.{width-true, only-has, only-formed, test-is, statement-is, alike-parts, value-formed}
-use Rattle.model.proofs.GoodForms.{AllWidths}
-use Rattle.model.proofs.Accepted.{accepted-good}
-use Rattle.model.proofs.Joins.{document-joins}
-use Rattle.model.proofs.Theorem.{form-sized, form-good, variables-counted}
+use Rattle.model.proofs.SortTests.{width-true, only-has, only-formed, test-is, statement-is, alike-parts, value-formed, formed-before}
+use Rattle.model.proofs.GoodForms.{AllWidths, GoodPassive}
 use Rattle.model.proofs.NodeList.{nodeCount-words, plainNode-words, gives-statement}
 use Rattle.model.proofs.Formed.{step, sort}
-use Rattle.model.proofs.EntrySorts.{formed-before, formed-node, length-built, entries-formed}
+use Rattle.model.proofs.EntrySorts.{formed-node, length-built, entries-formed}
 use Rattle.model.proofs.Accepts.{form-formed}
 
 -- ---- a sort's width is at most 32
@@ -216,40 +212,21 @@ pub words-fit : (stage : Stage) → allowed stage 3 ≡ false → (ws : List ℕ
 words-fit stage bare ws all few ns low formed =
     all-words ns (λ i h. rw (← plainNode-words ns i no h) (formed-fits stage bare ws all few (plainNode (words ns)) i (omega arith) (formed i h)))
 
--- ---- the words of a pipeline's form and condition
+-- ---- the words of a well-formed form and of its condition
 
-module _ (p r : List ℕ) (accepted : Accepted p r) (small : Small p r) where
-  abbrev ns : List Node
-  ns = passiveForm p r .nodes
+module _ (q : Passive) (ws : List ℕ) (good : GoodPassive ws q) (all : AllWidths ws) (small : length (emit q 0) ≤ formLimit) (few : length ws ≤ 2 ^ 32) where
+  abbrev formOf : List ℕ
+  formOf = words (emit q 0)
 
-  -- 32 fields, and a new variable for at most each node
-  pub few-variables : length (variableWidths p r) ≤ 32 + formLimit
-  unfolding passiveForm
-  few-variables =
-      let w = accepted-good p r accepted in
-      omega (arith, variables-counted p r w newWhereDiffers document-joins, w .counts .mostFields)
-
-  sized : AllWidths (variableWidths p r)
-  unfolding passiveForm
-  sized = form-sized p r (accepted-good p r accepted) newWhereDiffers document-joins
-
-  formed : (i : ℕ) → i < nodeCount (formWords p r) → isFormed (sort Stage.Passive (variableWidths p r) (plainNode (formWords p r)) i) ≡ true
-  unfolding passiveForm
-  formed i h =
-      let f = passive p r in
-      form-formed (f .body) (f .after .widths) (form-good p r (accepted-good p r accepted) newWhereDiffers document-joins) sized i h
-
-  some : 0 < length ns
-  unfolding passiveForm
-  some = gives-statement (plainNode (formWords p r)) (passive p r .body) .some 0
-
-  pub form-words-fit : All (λ w. w < 2 ^ 32) (formWords p r)
+  pub form-fits : All (λ w. w < 2 ^ 32) formOf
   unfolding times
-  form-words-fit =
-      words-fit Stage.Passive refl (variableWidths p r) sized (omega (arith, few-variables)) ns (omega arith) (λ i h. formed i (omega (arith, nodeCount-words ns)))
+  form-fits =
+      words-fit Stage.Passive refl ws all few (emit q 0) (omega arith) (λ i h. form-formed q ws good all i (omega (arith, nodeCount-words (emit q 0))))
 
-  pub condition-words-fit : All (λ w. w < 2 ^ 32) (conditionWords p r)
+  pub condition-fits : All (λ w. w < 2 ^ 32) (words (conditionOf formOf))
   unfolding times
-  condition-words-fit =
-      words-fit Stage.Condition refl (variableWidths p r) sized (omega (arith, few-variables)) (conditionOf (formWords p r)) (omega (arith, length-built (formWords p r), nodeCount-words ns))
-      (entries-formed (formWords p r) (variableWidths p r) (omega (arith, some, nodeCount-words ns)) formed)
+  condition-fits =
+      let count = nodeCount-words (emit q 0) in
+      let some = gives-statement (plainNode formOf) q .some 0 in
+      words-fit Stage.Condition refl ws all few (conditionOf formOf) (omega (arith, length-built formOf, count))
+      (entries-formed formOf ws (omega (arith, some, count)) (form-formed q ws good all))

@@ -17,7 +17,7 @@ use Rattle.model.specs.Walk.{packetOf, choicesOf}
 use Rattle.model.specs.Answers as said
 use Rattle.model.specs.Answers.{Answer, done, refused, told, yesOrNo}
 use Rattle.model.specs.Refusals.{Row, checkRows, conditionRows, evaluateRows, lateRow}
-use Rattle.model.specs.Calls.{over, check, condition, evaluate, conditionTruth, loadRows, startRows, runRows, passifyRows, extractRows, Loads, Checks, LooksUp, Runs, Confirms, Passifies, Builds, Evaluates, Extracts}
+use Rattle.model.specs.Calls.{over, check, confirm, condition, evaluate, extract, witness, conditionTruth, loadRows, startRows, runRows, passifyRows, extractRows, Loads, Checks, LooksUp, Runs, Confirms, Passifies, Builds, Evaluates, Extracts}
 use Rattle.model.specs.declared.Loaded.{Loaded}
 use Rattle.model.specs.declared.Checked.{Checked}
 use Rattle.model.specs.declared.Ran.{Ran}
@@ -171,6 +171,12 @@ pub record Demand3 : Type 0 where
   pub taken : (p r valuation : List ℕ) → Accepted p r → Small p r → Within (variableWidths p r) valuation → FalseUnder p r valuation
       → Within (packetWidths p) (packetOf p valuation)
       × FailsWith p r (packetOf p valuation) (choicesOf p r valuation) (length (choicesOf p r valuation))
+  -- with room for them, Extract gives these, and Confirm says yes to them
+  pub extracted : (p r valuation : List ℕ) → Accepted p r → Small p r → Within (variableWidths p r) valuation → FalseUnder p r valuation
+      → (packetRoom choiceRoom : ℕ) → length (packetOf p valuation) ≤ packetRoom → length (choicesOf p r valuation) ≤ choiceRoom
+      → extract p r valuation packetRoom choiceRoom ≡ done (witness p r valuation)
+  pub confirmed : (p r valuation : List ℕ) → Accepted p r → Small p r → Within (variableWidths p r) valuation → FalseUnder p r valuation
+      → confirm p r (packetOf p valuation) (choicesOf p r valuation) ≡ done true
 
 -- The condition is not constant: one accepted pipeline's is false somewhere, and another's is true everywhere.
 pub record NotConstant : Type 0 where

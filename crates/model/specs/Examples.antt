@@ -265,7 +265,7 @@ pub record ExampleRows : Type 0 where
   pub wrongAllTheSame : (truth failsBeforeBlock [] (5 ∷ []) ≡ done false) × (choicesTaken failsBeforeBlock [] (5 ∷ []) ≡ done (0 ∷ []))
   -- a side goes on only with its join's equations: of example 8, at (5, 1, 5), the second
   pub onWithEquations : choicesTaken assignOrSkip [] (5 ∷ 1 ∷ 5 ∷ []) ≡ done (1 ∷ [])
-  -- what a havoc gives is not what the field held
+  -- what a havoc gives need not be what the field held
   pub havocIsNew : (ends zeroThenAny [] (0 ∷ []) (1 ∷ []) ≡ done (2 ∷ 9 ∷ 1 ∷ 1 ∷ []))
       × (truth zeroThenAny [] (0 ∷ 1 ∷ []) ≡ done false) × (choicesTaken zeroThenAny [] (0 ∷ 1 ∷ []) ≡ done (1 ∷ []))
   -- a table without rules is its default's body: constant, variable, equal, assume
