@@ -48,7 +48,8 @@ module _ (number : ℕ) (stage : Stage) (ends : Sort → Bool) (form ws : List �
 
   -- and what they say of the nodes
   module _ (well : WellBefore (nodesRow number stage ends form ws) (nodeCount form)) where
-    both-well : (i : ℕ) → i < nodeCount form → (isFormed (sortThere i) ≡ true) × ((if eqb (suc i) (nodeCount form) then ends (sortThere i) else true) ≡ true)
+    both-well : (i : ℕ) → i < nodeCount form
+        → (isFormed (sortThere i) ≡ true) × ((if eqb (suc i) (nodeCount form) then ends (sortThere i) else true) ≡ true)
     both-well i h = both-true (isFormed (sortThere i)) _ (rw (sorts-at stage ws (plainNode form) (nodeCount form) i h) at (well i h))
 
     pub nodes-formed : (i : ℕ) → i < nodeCount form → isFormed (sortThere i) ≡ true

@@ -44,13 +44,15 @@ after-refused {A} rows m n q = go (judge rows) refl
     )
 
 -- THE LAW. The answer of a call that does something once no row applies.
-pub exact-after : {A : Type 0} (values : A → List ℕ) (rows : List Row) (m : Answer A) (a : Answer (List ℕ)) → a ≡ told values (after (judge rows) (λ _. m))
+pub exact-after : {A : Type 0} (values : A → List ℕ) (rows : List Row) (m : Answer A) (a : Answer (List ℕ))
+    → a ≡ told values (after (judge rows) (λ _. m))
     → (n q : ℕ) → (a ≡ refused n q) ↔ (First rows n q ⊎ (Clear rows × (m ≡ refused n q)))
 exact-after values rows m a e n q =
     rw e (Iff·trans (told-refused values (after (judge rows) (λ _. m)) n q) (after-refused rows m n q))
 
 -- it does not refuse by itself
-pub exact : {A : Type 0} (values : A → List ℕ) (rows : List Row) (x : A) (a : Answer (List ℕ)) → a ≡ told values (after (judge rows) (λ _. done x)) → Exact rows a
+pub exact : {A : Type 0} (values : A → List ℕ) (rows : List Row) (x : A) (a : Answer (List ℕ))
+    → a ≡ told values (after (judge rows) (λ _. done x)) → Exact rows a
 exact values rows x a e n q =
     let h = exact-after values rows (done x) a e n q in
     (λ k. ⊎-elim (λ f. f) (λ z. absurd (never (z .1))) (h .0 k), λ f. h .1 (inl f))

@@ -228,7 +228,8 @@ module _ (ws widths : List ℕ) (rule : JoinRule) (laws : JoinLaws rule) (sizes 
       guarded e₀ e₁ t p v out n₀ n₁ i m =
           weaker widths e₀ e₁ _ _ v out n₁ (λ w d. true-both _ _ (i w (agree-less n₀ d))) (λ w d. true-both _ _ (i w (agree-less n₀ d))) m
 
-      pub complete-chain : Front (both Origin.ofChain first rest .after .widths) widths → Complete widths (whether test a b) e (both Origin.ofChain first rest)
+      pub complete-chain : Front (both Origin.ofChain first rest .after .widths) widths
+          → Complete widths (whether test a b) e (both Origin.ofChain first rest)
       unfolding truthOf
       complete-chain front = record { meets = λ v f t eq. go v f t eq (test (t .packet)) refl }
         where

@@ -77,7 +77,8 @@ module _ (widths : List ℕ) where
 
   -- a sequence
   module _ (e e₁ e₂ : Vars) (p q : Passive) (v : ℕ → ℕ) (n₁ : next e ≤ next e₁) (n₂ : next e₁ ≤ next e₂) where
-    second : (packet : List ℕ) (x : Extends e e₁ v (On e₁ (aim p) packet)) (o : Outcome) → Meets e₁ e₂ (aim q) (x .to) o → Meets e e₂ (aim (p then q)) v o
+    second : (packet : List ℕ) (x : Extends e e₁ v (On e₁ (aim p) packet)) (o : Outcome) → Meets e₁ e₂ (aim q) (x .to) o
+        → Meets e e₂ (aim (p then q)) v o
     unfolding goesOn goesWrong
     second packet x (passed t) m =
         record {
@@ -119,7 +120,8 @@ module _ (ws widths : List ℕ) where
     pub still : (w : ℕ → ℕ) → Agree (next e) v w → map w (e .current) ≡ packet
     still w a = map-agree v w (e .current) (λ i h. a (var e i) (k .low i (rw (k .size) at h))) ∙ q
 
-    pub still-truth : (t : Test) → GoodTest ws t → (w : ℕ → ℕ) → Agree (next e) v w → truthOf (varBits widths w) (renamedTest (e .current) t) ≡ truthOf (bitsIn ws packet) t
+    pub still-truth : (t : Test) → GoodTest ws t → (w : ℕ → ℕ) → Agree (next e) v w
+        → truthOf (varBits widths w) (renamedTest (e .current) t) ≡ truthOf (bitsIn ws packet) t
     still-truth t g w a = reads-truth ws widths e k front w t g ∙ rw (still w a)
 
     -- a field's value in the packet
@@ -149,7 +151,8 @@ module _ (ws widths : List ℕ) where
         says : (b : Bool) → holds b → (w : ℕ → ℕ) → Agree (next e) v w → truthOf (varBits widths w) (renamedTest (e .current) t) ≡ b
         says b i w a = still-truth e k front v (s .packet) q t g w a ∙ i
 
-        on-true : (p : Passive) → ((at : ℕ → Bits) → goesOn at p ≡ truthOf at (renamedTest (e .current) t)) → holds true → Extends widths e e v (On widths e (aim p) (s .packet))
+        on-true : (p : Passive) → ((at : ℕ → Bits) → goesOn at p ≡ truthOf at (renamedTest (e .current) t)) → holds true
+            → Extends widths e e v (On widths e (aim p) (s .packet))
         on-true p is i = record {
           to = v;
           to-fits = f;
@@ -157,12 +160,14 @@ module _ (ws widths : List ℕ) where
           holds = λ w a. (is (varBits widths w) ∙ says true i w a, still e k front v (s .packet) q w a);
         }
 
-        in-assume : (n : ℕ) (b : Bool) → holds b → Meets widths e e (aim (Passive.assume (renamedTest (e .current) t))) v (if b then passed s else blocked n s)
+        in-assume : (n : ℕ) (b : Bool) → holds b
+            → Meets widths e e (aim (Passive.assume (renamedTest (e .current) t))) v (if b then passed s else blocked n s)
         unfolding goesOn
         in-assume n true i = on-true (Passive.assume (renamedTest (e .current) t)) (λ at. refl) i
         in-assume n false i = tt
 
-        in-assert : (n : ℕ) (b : Bool) → holds b → Meets widths e e (aim (Passive.assert (renamedTest (e .current) t))) v (if b then passed s else failed n s)
+        in-assert : (n : ℕ) (b : Bool) → holds b
+            → Meets widths e e (aim (Passive.assert (renamedTest (e .current) t))) v (if b then passed s else failed n s)
         unfolding goesOn goesWrong
         in-assert n true i = on-true (Passive.assert (renamedTest (e .current) t)) (λ at. refl) i
         in-assert n false i = record { to = v; to-fits = f; agrees = agree-refl v _; holds = λ w a. ap not (says false i w a) }
@@ -194,7 +199,8 @@ module _ (ws widths : List ℕ) where
           agrees = changed-below v (next e) c;
           holds = λ w a.
               let x : w (next e) ≡ c = a (next e) (omega (arith, fresh-next e i (getD ws i 0))) ∙ changed-here v (next e) c in
-              let y : map w (e .current) ≡ packet = still e k front-before v packet q w (agree-trans (omega (arith, fresh-next e i (getD ws i 0))) (changed-below v (next e) c) a) in
+              let first = agree-trans (omega (arith, fresh-next e i (getD ws i 0))) (changed-below v (next e) c) a in
+              let y : map w (e .current) ≡ packet = still e k front-before v packet q w first in
               (x, y, rw (map-set, x, y));
         }
 
@@ -216,7 +222,8 @@ module _ (ws widths : List ℕ) where
                   (eq-eqb _ _ (ap (λ (y : Bits). y .number) same ∙ sym (z .0)), z .2);
             }
 
-        in-havoc : (left : List ℕ) (u : ℕ) → Meets widths e after (aim (Passive.havoced (next e))) v (run ws onApply (Stmt.havoc i) (state packet left u))
+        in-havoc : (left : List ℕ) (u : ℕ)
+            → Meets widths e after (aim (Passive.havoced (next e))) v (run ws onApply (Stmt.havoc i) (state packet left u))
         unfolding run goesOn
         in-havoc [] u = tt
         in-havoc (c ∷ left) u = go (fits (getD ws i 0) c) refl

@@ -52,7 +52,8 @@ module _ (p : List ℕ) where
       below : ℕ → Type 0
       below x = x < N p
 
-      child : (i c : ℕ) → i < N p → ((j : ℕ) → j < i → All below (nodesUnder j)) → (b : Bool) → ltb c i ≡ b → All below (getD (build underStep i) c [])
+      child : (i c : ℕ) → i < N p → ((j : ℕ) → j < i → All below (nodesUnder j)) → (b : Bool) → ltb c i ≡ b
+          → All below (getD (build underStep i) c [])
       child i c h rec true e = rw (build-before underStep i (N p) c [] (ltb-true c i e) (omega arith)) (rec c (ltb-true c i e))
       child i c h rec false e = rw (build-past underStep i c [] (ltb-false c i e)) tt
 

@@ -45,7 +45,8 @@ formed-node stage ws before m h = go (allowed stage (m .kind)) refl (kind-or-unk
     unknown e = absurd (false≢true (only-formed (unusedZero Kind.Unknown m) Sort.Malformed e .1))
 
     found : (k : Kind) → m .kind ≡ numberOf k → allowed stage (m .kind) ≡ true
-        → isFormed (only (unusedZero k m) (sortBy ws 0 (λ x. getD before x Sort.Malformed) k (m .a) (m .b) (m .c))) ≡ true → HasKind stage ws before m k
+        → isFormed (only (unusedZero k m) (sortBy ws 0 (λ x. getD before x Sort.Malformed) k (m .a) (m .b) (m .c))) ≡ true
+        → HasKind stage ws before m k
     found k e a f =
         let o = only-formed (unusedZero k m) (sortBy ws 0 (λ x. getD before x Sort.Malformed) k (m .a) (m .b) (m .c)) f in
         record { is = λ i. node (e i) (m .a) (m .b) (m .c); may = rw e at a; zeros = o .0; good = o .1 }
@@ -84,7 +85,8 @@ module _ (ws : List ℕ) (g g′ : ℕ → Sort) (f : ℕ → ℕ) (value : (x :
   abbrev Keeps : Kind → ℕ → ℕ → ℕ → Type 0
   Keeps k a b c =
       isFormed (sortBy ws 0 g k a b c) ≡ true
-      → sortBy ws 0 g′ k (renumberedIn f (roles k .a) a) (renumberedIn f (roles k .b) b) (renumberedIn f (roles k .c) c) ≡ entrySort (sortBy ws 0 g k a b c)
+      → sortBy ws 0 g′ k (renumberedIn f (roles k .a) a) (renumberedIn f (roles k .b) b) (renumberedIn f (roles k .c) c)
+      ≡ entrySort (sortBy ws 0 g k a b c)
 
   slice-kept : (a b c : ℕ) → Keeps Kind.Slice a b c
   slice-kept a b c e =
@@ -177,7 +179,10 @@ module _ (ws : List ℕ) (nodes entries : ℕ → Node) (n : ℕ)
 
   connect-sort : (o : Connective) (j : ℕ) {x y : ℕ} → x < j → y < j → sortOfEntry x ≡ Sort.Test → sortOfEntry y ≡ Sort.Test
       → entries j ≡ node (numberOf (Kind.Connect o)) x y 0 → sortOfEntry j ≡ Sort.Test
-  connect-sort o j {x} {y} h k s t e = node-sort Stage.Condition ws entries (Kind.Connect o) (connect-allowed o) refl e ∙ rw (sort-before Stage.Condition ws entries j x h s, sort-before Stage.Condition ws entries j y k t)
+  connect-sort o j {x} {y} h k s t e =
+      let left = sort-before Stage.Condition ws entries j x h s in
+      let right = sort-before Stage.Condition ws entries j y k t in
+      node-sort Stage.Condition ws entries (Kind.Connect o) (connect-allowed o) refl e ∙ rw (left, right)
 
   -- node i over the entries of the nodes before it
   module _ (i : ℕ) (l : i < n) (before : (x : ℕ) → x < i → Owns x) where
@@ -231,7 +236,10 @@ module _ (ws : List ℕ) (nodes entries : ℕ → Node) (n : ℕ)
           let zeros = zeros-kept k m (known .zeros) in
           let e = first-entry owned l (known .is) ∙ expression-entry k i (m .a) (m .b) (m .c) h in
           record {
-            first = node-sort Stage.Condition ws entries k h zeros e ∙ sort-kept ws own entryOwn on value test k (m .a) (m .b) (m .c) h (known .good) ∙ ap entrySort (sym its-sort);
+            first =
+                node-sort Stage.Condition ws entries k h zeros e
+                ∙ sort-kept ws own entryOwn on value test k (m .a) (m .b) (m .c) h (known .good)
+                ∙ ap entrySort (sym its-sort);
             second = no-sort (3 * i + 1) (each-entry owned 1 (omega arith) l (known .is) ∙ rw (entry-below (numberOf k) h));
             third = no-sort (3 * i + 2) (each-entry owned 2 (omega arith) l (known .is) ∙ rw (entry-below (numberOf k) h));
           }

@@ -56,6 +56,7 @@ module _ (widths : List ℕ) where
   good-equations (x ∷ xs) [] f = tt
   good-equations (x ∷ xs) (z ∷ zs) f = go (eqb x z) (good-equations xs zs (λ i h. f (suc i) (suc-le-suc h)))
     where
-      go : (b : Bool) → GoodEquations widths (equations xs zs) → GoodEquations widths (if b then equations xs zs else record { own = x; joined = z } ∷ equations xs zs)
+      go : (b : Bool) → GoodEquations widths (equations xs zs)
+          → GoodEquations widths (if b then equations xs zs else record { own = x; joined = z } ∷ equations xs zs)
       go true k = k
       go false k = let w = f zero (zero-lt-suc _) in (w .0, w .1, w .2, k)

@@ -87,7 +87,8 @@ module _ (ws : List ℕ) (all : AllWidths ws) (nodes : ℕ → Node) where
     pub formed : Range at (suc i)
 
   own-sort : (k : Kind) {i a b c : ℕ} {s : Sort} → allowed Stage.Passive (numberOf k) ≡ true → unusedZero k (node (numberOf k) a b c) ≡ true
-      → nodes i ≡ node (numberOf k) a b c → sortBy ws 0 (λ x. getD (build (step Stage.Passive ws nodes) i) x Sort.Malformed) k a b c ≡ s → sortHere i ≡ s
+      → nodes i ≡ node (numberOf k) a b c → sortBy ws 0 (λ x. getD (build (step Stage.Passive ws nodes) i) x Sort.Malformed) k a b c ≡ s
+      → sortHere i ≡ s
   own-sort k h u e f = node-sort Stage.Passive ws nodes k h u e ∙ f
 
   own-well : (k : Kind) {at i a b c : ℕ} {s : Sort} → allowed Stage.Passive (numberOf k) ≡ true → unusedZero k (node (numberOf k) a b c) ≡ true
@@ -165,10 +166,12 @@ module _ (ws : List ℕ) (all : AllWidths ws) (nodes : ℕ → Node) where
   tied-well [] side at last end g t h e = (rw (← t .0) e, λ j l m. absurd (omega (arith, t .1)))
   tied-well (q ∷ es) side at last end g t h e =
       let x = test-well (equality q) _ _ (g .0, g .1, g .2) (t .0 .spans) in
-      let assumed : Well at (at + 3) Sort.Statement = behind x (own-well Kind.Assume refl refl refl (t .0 .rest) (rw (child (at + 3) (omega (arith, t .0 .rest .alone)) x))) in
+      let test-before = child (at + 3) (omega (arith, t .0 .rest .alone)) x in
+      let assumed : Well at (at + 3) Sort.Statement = behind x (own-well Kind.Assume refl refl refl (t .0 .rest) (rw test-before)) in
       let o : Own nodes (node 37 side (at + 3) 0) (suc (at + 3)) (at + 4) = record { alone = omega arith; is = t .1 } in
       let before = sort-before Stage.Passive ws nodes (at + 4) side (omega arith) e in
-      let five : Well at (at + 4) Sort.Statement = behind assumed (own-well Kind.Sequence refl refl refl o (rw (before, child (at + 4) (omega arith) assumed))) in
+      let assumed-before = child (at + 4) (omega arith) assumed in
+      let five : Well at (at + 4) Sort.Statement = behind assumed (own-well Kind.Sequence refl refl refl o (rw (before, assumed-before))) in
       let more = tied-well es (at + 4) (at + 5) last end (g .3) (t .2) (omega arith) (five .own) in
       (more .0, range-join at (suc (at + 4)) end (five .formed) (rw (add-suc at 4) at (more .1)))
 

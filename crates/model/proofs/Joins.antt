@@ -130,7 +130,8 @@ new-sized m (w ∷ ws) (z ∷ zs) s = go (eqb z m) (λ n. new-sized n ws zs (λ 
 abbrev Source : ℕ → ℕ → ℕ → ℕ → ℕ → Type 0
 Source z own other bound new = (z ≡ own) ⊎ (((z ≡ other) × (bound ≤ other)) ⊎ (z ≡ new))
 
-source : (z own other new b bound : ℕ) → (z ≡ own) ⊎ (((z ≡ other) × (other ≢ b)) ⊎ (z ≡ new)) → (other ≡ b) ⊎ (bound ≤ other) → Source z own other bound new
+source : (z own other new b bound : ℕ) → (z ≡ own) ⊎ (((z ≡ other) × (other ≢ b)) ⊎ (z ≡ new)) → (other ≡ b) ⊎ (bound ≤ other)
+    → Source z own other bound new
 source z own other new b bound (inl x) m = inl x
 source z own other new b bound (inr (inl x)) (inl m) = absurd (x .1 m)
 source z own other new b bound (inr (inl x)) (inr m) = inr (inl (x .0, m))
@@ -140,7 +141,8 @@ source z own other new b bound (inr (inr x)) m = inr (inr x)
 abbrev pub joinedAfter : List ℕ → JoinRule → Vars → Vars → Vars → Vars
 joinedAfter ws rule e l r = let zs = joinedVars rule (next r) (e .current) (l .current) (r .current) in vars zs (r .widths ++ newWidths (next r) ws zs)
 
-pub joined-front : (ws : List ℕ) (rule : JoinRule) (e l r : Vars) (widths : List ℕ) → Front (joinedAfter ws rule e l r .widths) widths → Front (r .widths) widths
+pub joined-front : (ws : List ℕ) (rule : JoinRule) (e l r : Vars) (widths : List ℕ) → Front (joinedAfter ws rule e l r .widths) widths
+    → Front (r .widths) widths
 joined-front ws rule e l r widths front = front-trans (front-append (r .widths) _) front
 
 -- both sides of a choice, from the variables before it: the right one starts from those, numbering on
@@ -183,14 +185,16 @@ module _ (ws : List ℕ) (rule : JoinRule) (laws : JoinLaws rule) (sizes : AllWi
   new-late i = new-from rule (next r) (e .current) (l .current) (r .current) i
 
   -- a joined variable is there and has its field's width
-  has-width : (i : ℕ) → i < length ws → Source (var after i) (var l i) (var r i) (next l) (new i) → HasWidth (after .widths) (var after i) (getD ws i 0)
+  has-width : (i : ℕ) → i < length ws → Source (var after i) (var l i) (var r i) (next l) (new i)
+      → HasWidth (after .widths) (var after i) (getD ws i 0)
   has-width i h (inl x) =
       let f = front-trans (s .right .front) after-right in
       rw x (lt-of-lt-of-le (s .leftReady .low i h) (f .shorter), f .same (var l i) (s .leftReady .low i h) ∙ s .leftReady .wide i h)
   has-width i h (inr (inl x)) =
       rw (x .0) (lt-of-lt-of-le (s .rightReady .low i h) (after-right .shorter), after-right .same (var r i) (s .rightReady .low i h) ∙ s .rightReady .wide i h)
   has-width i h (inr (inr x)) =
-      rw x (new-width rule (r .widths) (next r) ws (e .current) (l .current) (r .current) i refl (rw (s .before .size) h) left-size right-size (sym (s .before .size)) x)
+      let there : i < length (e .current) = rw (s .before .size) h in
+      rw x (new-width rule (r .widths) (next r) ws (e .current) (l .current) (r .current) i refl there left-size right-size (sym (s .before .size)) x)
 
   module _ (i j : ℕ) (h : i < j) (k : j < length ws) where
     in-left : var l i < next l
@@ -199,7 +203,8 @@ module _ (ws : List ℕ) (rule : JoinRule) (laws : JoinLaws rule) (sizes : AllWi
     in-right : var r i < next r
     in-right = s .rightReady .low i (lt-trans h k)
 
-    joined-apart : Source (var after i) (var l i) (var r i) (next l) (new i) → Source (var after j) (var l j) (var r j) (next l) (new j) → var after i ≢ var after j
+    joined-apart : Source (var after i) (var l i) (var r i) (next l) (new i) → Source (var after j) (var l j) (var r j) (next l) (new j)
+        → var after i ≢ var after j
     joined-apart (inl x) (inl y) p = s .leftReady .apart i j h k (sym x ∙ p ∙ y)
     joined-apart (inl x) (inr (inl y)) p = let z : ⊥ = omega (arith, in-left, y .0, y .1) in z
     joined-apart (inl x) (inr (inr y)) p = let z : ⊥ = omega (arith, in-left, after-left, new-late j) in z

@@ -184,7 +184,8 @@ module _ (nodes : ℕ → Node) where
   gives-two : {p q : Piece} {A B : Span} (own : ℕ → ℕ → Node) → Gives p A → Gives q B → Gives (two p q own) (Two A B own)
   gives-two own g k = gives-then g (λ x. gives-one (own x) k)
 
-  gives-three : {p q r : Piece} {A B C : Span} (own : ℕ → ℕ → ℕ → Node) → Gives p A → Gives q B → Gives r C → Gives (three p q r own) (Three A B C own)
+  gives-three : {p q r : Piece} {A B C : Span} (own : ℕ → ℕ → ℕ → Node) → Gives p A → Gives q B → Gives r C
+      → Gives (three p q r own) (Three A B C own)
   gives-three own g k l = gives-then g (λ x. gives-two (own x) k l)
 
   tied : (es : List Equation) (side at : ℕ) → let x = emitEquations es side at in Stands nodes at (x .nodes) → Tied es side at (x .side) (past at (x .nodes))

@@ -26,7 +26,8 @@ module _ (ws widths : List ℕ) (e : Vars) (k : Ready ws e) (front : Front (e .w
     pub reads-bits : (x : Val) → GoodValue ws x → bitsOf (varBits widths v) (renamed (e .current) x) ≡ bitsOf (bitsIn ws (map v (e .current))) x
     reads-bits x g = renamed-bits ws (e .current) (varBits widths v) (bitsIn ws (map v (e .current))) reads x g
 
-    pub reads-truth : (t : Test) → GoodTest ws t → truthOf (varBits widths v) (renamedTest (e .current) t) ≡ truthOf (bitsIn ws (map v (e .current))) t
+    pub reads-truth : (t : Test) → GoodTest ws t
+        → truthOf (varBits widths v) (renamedTest (e .current) t) ≡ truthOf (bitsIn ws (map v (e .current))) t
     reads-truth t g = renamed-truth ws (e .current) (varBits widths v) (bitsIn ws (map v (e .current))) reads t g
 
   pub reads-good : (x : Val) → GoodValue ws x → GoodValue widths (renamed (e .current) x)

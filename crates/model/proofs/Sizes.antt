@@ -43,7 +43,8 @@ size-choice o a xs b ys at =
     (omega (arith, equation-nodes xs (top at (emit a at)) (past (past at (emit a at)) (emit b (past at (emit a at))))))
 
 -- each new variable of a join has an equation on the left side, whose variables are older
-pub new-equations : (m : ℕ) (ws xs zs : List ℕ) → length xs ≡ length zs → ((i : ℕ) → i < length xs → getD xs i 0 < m) → length (newWidths m ws zs) ≤ length (equations xs zs)
+pub new-equations : (m : ℕ) (ws xs zs : List ℕ) → length xs ≡ length zs → ((i : ℕ) → i < length xs → getD xs i 0 < m)
+    → length (newWidths m ws zs) ≤ length (equations xs zs)
 unfolding newWidths equations
 new-equations m [] xs zs e f = omega arith
 new-equations m (w ∷ ws) xs [] e f = omega arith

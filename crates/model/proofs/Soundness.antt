@@ -29,7 +29,8 @@ module _ (ws widths : List ℕ) (v : ℕ → ℕ) where
     pub on : goesOn at (f .body) ≡ true → Goes go (map v (e .current)) (walkOn at (f .body)) (map v (f .after .current))
     pub wrong : goesWrong at (f .body) ≡ true → Fails go (map v (e .current)) (walkWrong at (f .body))
 
-  pub sound-both : (a b : Run) (e : Vars) (l r : Form) → Sound a e l → Sound b (l .after) r → Sound (inOrder a b) e (form (l .body then r .body) (r .after))
+  pub sound-both : (a b : Run) (e : Vars) (l r : Form) → Sound a e l → Sound b (l .after) r
+      → Sound (inOrder a b) e (form (l .body then r .body) (r .after))
   unfolding goesOn goesWrong walkOn walkWrong
   sound-both a b e l r x y = record {
     on = λ o. let oo = both-true (goesOn at (l .body)) _ o in goes-both a b (x .on (oo .0)) (y .on (oo .1));

@@ -118,7 +118,8 @@ module _ (ws : List ℕ) (sizes : AllWidths ws) where
           unfolding join GoodPassive
           good-make g h = (g, equations-good (f e .after) (sides e k .leftReady) front-left, h, equations-good (second e .after) (sides e k .rightReady) front-right)
 
-        counted-make : (at m n : ℕ) → sizeAt (f e .body) m ≤ sizeAt (first e) at → sizeAt (second e .body) n ≤ sizeAt (rest e) (past at (emit (first e) at))
+        counted-make : (at m n : ℕ) → sizeAt (f e .body) m ≤ sizeAt (first e) at
+            → sizeAt (second e .body) n ≤ sizeAt (rest e) (past at (emit (first e) at))
             → next (make e .after) ≤ next e + sizeAt (make e .body) at
         unfolding join
         counted-make at m n h i =

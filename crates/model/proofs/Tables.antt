@@ -24,7 +24,8 @@ use Rattle.model.proofs.Statements.{ExactForm, exact-chain, exact-same,
 -- m says of a packet that the rule matches
 module _ (p r : List ℕ) (packet : List ℕ) (i : ℕ) where
   keys-match : (n : ℕ)
-      → every (λ j. bits.under (mask r i j) (value r i j) (word packet (key p (tableOf r i) j))) n ≡ truthOf (bitsIn (widths p) packet) (keyTests p r i n)
+      → every (λ j. bits.under (mask r i j) (value r i j) (word packet (key p (tableOf r i) j))) n
+      ≡ truthOf (bitsIn (widths p) packet) (keyTests p r i n)
   unfolding every keyTests truthOf
   keys-match zero = refl
   keys-match (suc n) = rw (keys-match n)
@@ -53,7 +54,8 @@ module _ (p r : List ℕ) (w : WellFormed p r) (rule : JoinRule) (laws : JoinLaw
     unfolding firstThat chainForm
     exact-rules [] h = exact-body (callOf p r t Hit.Default) (w .defaultGood t there)
     exact-rules (i ∷ is) h =
-        exact-same (widths p) (w .widthsGood) (whether (λ packet. matches p r packet i) here (firstOf is)) (firstOf (i ∷ is)) (chainForm p r rule t (i ∷ is)) (λ s. go s (matches p r (s .packet) i))
+        exact-same (widths p) (w .widthsGood) (whether (λ packet. matches p r packet i) here (firstOf is)) (firstOf (i ∷ is))
+        (chainForm p r rule t (i ∷ is)) (λ s. go s (matches p r (s .packet) i))
         (exact-chain (widths p) (w .widthsGood) rule laws here (firstOf is) (bodyForm p r rule (callOf p r t (Hit.Rule i))) (chainForm p r rule t is)
         (exact-body (callOf p r t (Hit.Rule i)) (w .ruleGood i (h .0 .0) t)) (exact-rules is (h .1))
         (λ packet. matches p r packet i) (matching p r i) (w .matchingGood i (h .0 .0)) (λ packet. rule-matches p r packet i))

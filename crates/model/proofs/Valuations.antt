@@ -110,7 +110,8 @@ module _ (widths : List ℕ) where
       go true e = rw (eqb-true x n e) h
       go false e = f x
 
-  pub settled-fits : (v : ℕ → ℕ) (xs zs cs : List ℕ) → Fits v → ((i : ℕ) → i < length zs → getD cs i 0 < 2 ^ getD widths (getD zs i 0) 0) → Fits (settled v xs zs cs)
+  pub settled-fits : (v : ℕ → ℕ) (xs zs cs : List ℕ) → Fits v → ((i : ℕ) → i < length zs → getD cs i 0 < 2 ^ getD widths (getD zs i 0) 0)
+      → Fits (settled v xs zs cs)
   unfolding settled
   settled-fits v [] zs cs f h y = f y
   settled-fits v (x ∷ xs) [] cs f h y = f y
