@@ -36,7 +36,7 @@ use Rattle.model.proofs.Refusals.{clear}
 use Rattle.model.proofs.Sorts.{as-statement}
 use Rattle.model.proofs.Decoded.{nodesUnder, under-below, PlacedAt, fits-at}
 
--- the rows of Check's table, each at all its places
+-- the rows of Check's table, each at all its places: the calls' crates cite those that demand 3 doesn't need too
 pub record Rows (p r : List ℕ) : Type 0 where
   pub two : countsWell p r ≡ true
   pub three : (i : ℕ) → i < F p → isWidth (width p i) ≡ true
@@ -64,7 +64,7 @@ rows p r e =
       ten = c .1 .1 .1 .1 .1 .1 .1 .1 .0;
     }
 
--- the counts, and the length of either block
+-- the counts, and the length of either block: no place that a call reads is past the end, and no count overflows
 pub record Counts (p r : List ℕ) : Type 0 where
   pub someFields : 1 ≤ F p
   pub mostFields : F p ≤ 32
@@ -257,6 +257,7 @@ module _ (p r : List ℕ) (h : Rows p r) where
 
 -- ---- the whole
 
+-- what a call may rely on once Check has accepted: no later proof opens the checker
 pub record WellFormed (p r : List ℕ) : Type 0 where
   pub counts : Counts p r
   pub widthsLength : length (widths p) ≡ F p
