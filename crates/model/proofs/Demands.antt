@@ -11,9 +11,10 @@ use Rattle.model.specs.Good.{Within}
 use Rattle.model.specs.Runs.{packetWidths}
 use Rattle.model.specs.Passive.{passive, newWhereDiffers}
 use Rattle.model.specs.Emit.{passiveForm, formLimit}
+use Rattle.model.specs.Condition.{conditionOf}
 use Rattle.model.specs.Walk.{goesWrong, packetOf, choicesOf}
 use Rattle.model.specs.Calls.{conditionTruth}
-use Rattle.model.specs.Demands.{FailsWith, Accepted, Small, formWords, conditionWords, Falsifiable, CanFail, FalseUnder, Demand3, NotConstant, variableWidths}
+use Rattle.model.specs.Demands.{Falsifies, FailsWith, Accepted, Small, formWords, conditionWords, Falsifiable, CanFail, Demand3, NotConstant, variableWidths}
 use Rattle.model.specs.Examples.{bothFalse}
 use Rattle.model.proofs.Compute.{compute}
 use Rattle.model.proofs.Every.{All}
@@ -22,10 +23,11 @@ use Rattle.model.proofs.Within.{within-length}
 use Rattle.model.proofs.Accepted.{WellFormed, accepted-good}
 use Rattle.model.proofs.Joins.{document-joins}
 use Rattle.model.proofs.Theorem.{form-sized, form-good, variables-counted, packet-within, taken-fails, found-wrong}
+use Rattle.model.proofs.NodeList.{length-words}
 use Rattle.model.proofs.Evaluation.{condition-truth}
 use Rattle.model.proofs.Accepts.{condition-built, condition-valued}
 use Rattle.model.proofs.WordsFit.{form-fits, condition-fits}
-use Rattle.model.proofs.Counterexamples.{extract-gives, confirm-yes}
+use Rattle.model.proofs.CallsGive.{passify-gives, extract-gives, confirm-yes}
 
 -- the condition's truth is that the form doesn't go wrong
 truth-is : (p r valuation : List ℕ) → conditionTruth (passiveForm p r) valuation ≡ not (goesWrong (bitsIn (variableWidths p r) valuation) (passive p r .body))
@@ -45,36 +47,40 @@ module _ (p r : List ℕ) (accepted : Accepted p r) where
   sized : AllWidths all
   sized = form-sized p r well newWhereDiffers document-joins
 
-  module _ (valuation : List ℕ) (within : Within all valuation) where
+  module _ (valuation : List ℕ) (f : Falsifies p r valuation) where
     packet-in : Within (packetWidths p) (packetOf p valuation)
-    packet-in = packet-within p r well newWhereDiffers document-joins valuation within
-
-    fails : FalseUnder p r valuation → FailsWith p r (packetOf p valuation) (choicesOf p r valuation) (length (choicesOf p r valuation))
     unfolding passiveForm
-    fails e = taken-fails p r well newWhereDiffers document-joins valuation within (not-false _ (sym (truth-is p r valuation) ∙ e))
+    packet-in = packet-within p r well newWhereDiffers document-joins valuation (f .0)
+
+    fails : FailsWith p r (packetOf p valuation) (choicesOf p r valuation) (length (choicesOf p r valuation))
+    unfolding passiveForm
+    fails = taken-fails p r well newWhereDiffers document-joins valuation (f .0) (not-false _ (sym (truth-is p r valuation) ∙ f .1))
 
   falsified : CanFail p r → Falsifiable p r
   unfolding passiveForm
   falsified x =
       let f = found-wrong p r well newWhereDiffers document-joins (x .0) (x .3) (x .1) (x .2) (x .4) in
-      (f .0, f .1, truth-is p r (f .0) ∙ ap not (f .3))
+      (f .0, (f .1, truth-is p r (f .0) ∙ ap not (f .3)))
 
 pub demand3 : Demand3
 unfolding passiveForm
 demand3 = record {
-  built = λ p r accepted small lent. condition-built (passive p r .body) (all p r accepted) (good p r accepted) (sized p r accepted) small lent;
+  translated = λ p r accepted small nodeRoom widthRoom h k.
+      passify-gives p r accepted small nodeRoom widthRoom (rw (length-words (passiveForm p r .nodes)) at h) k;
+  built = λ p r accepted small lent h.
+      condition-built (passive p r .body) (all p r accepted) (good p r accepted) (sized p r accepted) small lent (rw (length-words (conditionOf (formWords p r))) at h);
   valued = λ p r valuation accepted small within lent.
       condition-valued (passive p r .body) (all p r accepted) (good p r accepted) (sized p r accepted) small lent valuation within;
   exact = λ p r accepted small. (
-    λ x. (_, _, _, packet-in p r accepted (x .0) (x .1), fails p r accepted (x .0) (x .1) (x .2)),
+    λ x. (_, _, _, packet-in p r accepted (x .0) (x .1), fails p r accepted (x .0) (x .1)),
     falsified p r accepted,
   );
-  taken = λ p r valuation accepted small within e. (packet-in p r accepted valuation within, fails p r accepted valuation within e);
-  extracted = λ p r valuation accepted small within e packetRoom choiceRoom h k.
-      extract-gives p r accepted small valuation within e packetRoom choiceRoom
-      (rw (within-length (packetWidths p) (packetOf p valuation) (packet-in p r accepted valuation within)) at h) k;
-  confirmed = λ p r valuation accepted small within e.
-      confirm-yes p r accepted (packetOf p valuation) (choicesOf p r valuation) (packet-in p r accepted valuation within) (fails p r accepted valuation within e);
+  taken = λ p r valuation accepted small f. (packet-in p r accepted valuation f, fails p r accepted valuation f);
+  extracted = λ p r valuation accepted small f packetRoom choiceRoom h k.
+      let size = within-length (packetWidths p) (packetOf p valuation) (packet-in p r accepted valuation f) in
+      extract-gives p r accepted small valuation f packetRoom choiceRoom (rw size at h) k;
+  confirmed = λ p r valuation accepted small f.
+      confirm-yes p r accepted (packetOf p valuation) (choicesOf p r valuation) (packet-in p r accepted valuation f) (fails p r accepted valuation f);
 }
 
 -- the words that are written fit 32 bits
@@ -96,6 +102,6 @@ module _ (p r : List ℕ) (accepted : Accepted p r) (small : Small p r) where
 pub not-constant : NotConstant
 unfolding compute
 not-constant = record {
-  somewhereFalse = (bothFalse 36 35, [], refl, omega arith, (0 ∷ [], (omega arith, tt), refl));
+  somewhereFalse = (bothFalse 36 35, [], refl, omega arith, (0 ∷ [], ((omega arith, tt), refl)));
   everywhereTrue = (bothFalse 35 36, [], refl, omega arith, λ valuation. refl);
 }

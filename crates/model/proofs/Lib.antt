@@ -45,5 +45,5 @@ pub mod Accepts
 pub mod WordsFit
 pub mod EvaluatedFits
 -- demand 3
-pub mod Counterexamples
+pub mod CallsGive
 pub mod Demands

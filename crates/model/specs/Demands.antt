@@ -11,13 +11,13 @@ use denote.Ref.{RefT}
 use Rattle.model.specs.Blocks.{F, T, words}
 use Rattle.model.specs.Good.{Within}
 use Rattle.model.specs.Runs.{State, Outcome, packetWidths, pipelineRun}
-use Rattle.model.specs.Emit.{passiveForm, formLimit}
+use Rattle.model.specs.Emit.{passiveForm}
 use Rattle.model.specs.Condition.{nodeCount, conditionOf, evaluated, lastTruth}
 use Rattle.model.specs.Walk.{packetOf, choicesOf}
 use Rattle.model.specs.Answers as said
 use Rattle.model.specs.Answers.{Answer, done, refused, told, yesOrNo}
 use Rattle.model.specs.Refusals.{Row, checkRows, conditionRows, evaluateRows, lateRow}
-use Rattle.model.specs.Calls.{over, check, confirm, condition, evaluate, extract, witness, conditionTruth, loadRows, startRows, runRows, passifyRows, extractRows, Loads, Checks, LooksUp, Runs, Confirms, Passifies, Builds, Evaluates, Extracts}
+use Rattle.model.specs.Calls.{over, check, confirm, passify, condition, evaluate, extract, witness, conditionTruth, loadRows, startRows, runRows, passifyRows, extractRows, Loads, Checks, LooksUp, Runs, Confirms, Passifies, Builds, Evaluates, Extracts}
 use Rattle.model.specs.declared.Loaded.{Loaded}
 use Rattle.model.specs.declared.Checked.{Checked}
 use Rattle.model.specs.declared.Ran.{Ran}
@@ -132,9 +132,9 @@ pub record Demand2 : Type 0 where
 
 -- DEMAND 3. The condition is exact, in both directions. A blocked run is no failure: it does not end failed.
 
--- the form isn't too large
+-- the form isn't too large: the demand's own number, whatever limit the calls keep
 abbrev pub Small : List ℕ → List ℕ → Type 0
-Small p r = length (passiveForm p r .nodes) ≤ formLimit
+Small p r = length (passiveForm p r .nodes) ≤ 65536
 
 -- the words that Condition is handed, and those that Evaluate is handed
 abbrev pub formWords : List ℕ → List ℕ → List ℕ
@@ -146,20 +146,22 @@ conditionWords p r = words (conditionOf (formWords p r))
 abbrev pub variableWidths : List ℕ → List ℕ → List ℕ
 variableWidths p r = passiveForm p r .widths
 
--- the condition is false under a valuation; under some valuation within the variables' widths
-abbrev pub FalseUnder : List ℕ → List ℕ → List ℕ → Type 0
-FalseUnder p r valuation = conditionTruth (passiveForm p r) valuation ≡ false
+-- a valuation within the variables' widths makes the condition false; some does
+abbrev pub Falsifies : List ℕ → List ℕ → List ℕ → Type 0
+Falsifies p r valuation = Within (variableWidths p r) valuation × (conditionTruth (passiveForm p r) valuation ≡ false)
 
 abbrev pub Falsifiable : List ℕ → List ℕ → Type 0
-Falsifiable p r = (valuation : List ℕ) × Within (variableWidths p r) valuation × FalseUnder p r valuation
+Falsifiable p r = (valuation : List ℕ) × Falsifies p r valuation
 
 -- some packet within its widths and some choice list make the run fail
 abbrev pub CanFail : List ℕ → List ℕ → Type 0
 CanFail p r = (packet : List ℕ) × (choices : List ℕ) × (used : ℕ) × Within (packetWidths p) packet × FailsWith p r packet choices used
 
 pub record Demand3 : Type 0 where
-  -- with room for it, Condition builds the condition, and Evaluate gives its truth under every valuation within the widths
-  pub built : (p r : List ℕ) → Accepted p r → Small p r → (lent : ℕ) → 4 * length (conditionOf (formWords p r)) ≤ lent
+  -- with room for it, Passify gives the form, Condition builds the condition, and Evaluate gives its truth
+  pub translated : (p r : List ℕ) → Accepted p r → Small p r → (nodeRoom widthRoom : ℕ)
+      → length (formWords p r) ≤ nodeRoom → length (variableWidths p r) ≤ widthRoom → passify p r nodeRoom widthRoom ≡ done (passiveForm p r)
+  pub built : (p r : List ℕ) → Accepted p r → Small p r → (lent : ℕ) → length (conditionWords p r) ≤ lent
       → condition (formWords p r) (variableWidths p r) lent ≡ done (conditionOf (formWords p r))
   pub valued : (p r valuation : List ℕ) → Accepted p r → Small p r → Within (variableWidths p r) valuation
       → (lent : ℕ) → 2 * length (conditionOf (formWords p r)) ≤ lent
@@ -168,14 +170,14 @@ pub record Demand3 : Type 0 where
   -- it can be falsified exactly when the pipeline can fail
   pub exact : (p r : List ℕ) → Accepted p r → Small p r → Falsifiable p r ↔ CanFail p r
   -- what is taken out of a valuation that makes it false makes the pipeline fail, with no entry left over
-  pub taken : (p r valuation : List ℕ) → Accepted p r → Small p r → Within (variableWidths p r) valuation → FalseUnder p r valuation
+  pub taken : (p r valuation : List ℕ) → Accepted p r → Small p r → Falsifies p r valuation
       → Within (packetWidths p) (packetOf p valuation)
       × FailsWith p r (packetOf p valuation) (choicesOf p r valuation) (length (choicesOf p r valuation))
   -- with room for them, Extract gives these, and Confirm says yes to them
-  pub extracted : (p r valuation : List ℕ) → Accepted p r → Small p r → Within (variableWidths p r) valuation → FalseUnder p r valuation
+  pub extracted : (p r valuation : List ℕ) → Accepted p r → Small p r → Falsifies p r valuation
       → (packetRoom choiceRoom : ℕ) → length (packetOf p valuation) ≤ packetRoom → length (choicesOf p r valuation) ≤ choiceRoom
       → extract p r valuation packetRoom choiceRoom ≡ done (witness p r valuation)
-  pub confirmed : (p r valuation : List ℕ) → Accepted p r → Small p r → Within (variableWidths p r) valuation → FalseUnder p r valuation
+  pub confirmed : (p r valuation : List ℕ) → Accepted p r → Small p r → Falsifies p r valuation
       → confirm p r (packetOf p valuation) (choicesOf p r valuation) ≡ done true
 
 -- The condition is not constant: one accepted pipeline's is false somewhere, and another's is true everywhere.
