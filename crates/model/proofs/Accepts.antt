@@ -8,7 +8,7 @@ use lib.Dec.{eqb, leb}
 use lib.ListN.{length}
 use borrow.Author.Tests.{eqb-true, eq-eqb, le-leb, leb-true}
 use Rattle.model.specs.Lists.{if_then_else_, within, word}
-use Rattle.model.specs.Blocks.{Node, words, plainNode}
+use Rattle.model.specs.Blocks.{words, plainNode}
 use Rattle.model.specs.Nodes.{isTest, isStatement, isFormed}
 use Rattle.model.specs.Good.{Within}
 use Rattle.model.specs.Passive.{Passive}
@@ -18,6 +18,7 @@ use Rattle.model.specs.Answers.{done, told, yesOrNo}
 use Rattle.model.specs.Refusals.{entryLimit, lengthRow, widthRow, nodesRow, conditionRows, evaluateRows, lateRow}
 use Rattle.model.specs.Calls.{condition, evaluate, conditionTruth}
 use Rattle.model.specs.Demands.{WellBefore, Clear}
+use Rattle.model.specs.declared.Node.{Node}
 use Rattle.model.specs.declared.Stage.{Stage}
 use Rattle.model.specs.declared.Sort.{Sort}
 use Rattle.model.proofs.Booleans.{both-true}

@@ -9,9 +9,10 @@ use lib.Dec.{eqb, ltb}
 use lib.ListN.{getD, length, length-append, List·getD-append}
 use lib.Seq.{getD-at}
 use Rattle.model.specs.Lists.{if_then_else_, joined}
-use Rattle.model.specs.Blocks.{Node, node, words, plainNode}
+use Rattle.model.specs.Blocks.{node, words, plainNode}
 use Rattle.model.specs.Nodes.{numberOf, allowed, roles, renumberedIn}
 use Rattle.model.specs.Condition.{no, notEntry, on, entriesOf, conditionOf}
+use Rattle.model.specs.declared.Node.{Node}
 use Rattle.model.specs.declared.Kind.{Kind}
 use Rattle.model.specs.declared.Stage.{Stage}
 use Rattle.model.proofs.Lists.{length-joined, joined-at}

@@ -11,11 +11,13 @@ use lib.ListN.{getD, length}
 use borrow.Author.Tests.{lt-ltb, le-leb, ltb-true}
 use Rattle.bits.specs.Width.{fits}
 use Rattle.model.specs.Lists.{if_then_else_, each, build, joined, times}
-use Rattle.model.specs.Blocks.{Node, node, words, plainNode}
-use Rattle.model.specs.Nodes.{numberOf, kinds, kindIn, kindOf, allowed, Role, child, number, unused, roles, renumberedIn, zeroIn, unusedZero, widthOf, isTest, isStatement, isFormed, isWidth, isValue, alike, only, sortBy, sortOf}
+use Rattle.model.specs.Blocks.{node, words, plainNode}
+use Rattle.model.specs.Nodes.{numberOf, kinds, kindIn, kindOf, allowed, roles, renumberedIn, zeroIn, unusedZero, widthOf, isTest, isStatement, isFormed, isWidth, isValue, alike, only, sortBy, sortOf}
 use Rattle.model.specs.Condition.{nodeCount, no, notEntry, on, entriesOf, conditionOf}
+use Rattle.model.specs.declared.Node.{Node}
 use Rattle.model.specs.declared.Connective.{Connective}
 use Rattle.model.specs.declared.Kind.{Kind}
+use Rattle.model.specs.declared.Role.{Role}
 use Rattle.model.specs.declared.Stage.{Stage}
 use Rattle.model.specs.declared.Sort.{Sort}
 use Rattle.model.proofs.Booleans.{both-true}
@@ -143,9 +145,9 @@ module _ (ws : List ℕ) (g g′ : ℕ → Sort) (f : ℕ → ℕ) (value : (x :
   sort-kept Kind.Unknown a b c h e = refl
 
 zero-kept : (f : ℕ → ℕ) (r : Role) (x : ℕ) → zeroIn r (renumberedIn f r x) ≡ zeroIn r x
-zero-kept f child x = refl
-zero-kept f number x = refl
-zero-kept f unused x = refl
+zero-kept f Role.Child x = refl
+zero-kept f Role.Number x = refl
+zero-kept f Role.Unused x = refl
 
 zeros-kept : (k : Kind) (m : Node) → unusedZero k m ≡ true → unusedZero k (overEntries k (m .a) (m .b) (m .c)) ≡ true
 zeros-kept k m h = rw (zero-kept on (roles k .a) (m .a), zero-kept on (roles k .b) (m .b), zero-kept on (roles k .c) (m .c)) h

@@ -7,7 +7,7 @@ use mathlib.Core.List.{List, [], _∷_}
 use lib.Dec.{eqb}
 use lib.ListN.{getD, length}
 use Rattle.model.specs.Lists.{build, times}
-use Rattle.model.specs.Blocks.{Node, node, words, plainNode}
+use Rattle.model.specs.Blocks.{node, words, plainNode}
 use Rattle.model.specs.Nodes.{numberOf, allowed}
 use Rattle.model.specs.Trees.{Val, Test, Bits, ofWidth, binaryBits, complementBits, sliceBits, joinBits, compareBits, connected, bitsOf, truthOf, bitsIn}
 use Rattle.model.specs.Passive.{Passive, Equation, _then_}
@@ -15,6 +15,7 @@ use Rattle.model.specs.Emit.{emit, top}
 use Rattle.model.specs.Condition.{nodeCount, notEntry, entriesOf, conditionOf, bit, isOn, bitsBy, entryBits, evaluated}
 use Rattle.model.specs.Walk.{equal, goesOn, goesWrong}
 use Rattle.model.specs.Calls.{conditionTruth}
+use Rattle.model.specs.declared.Node.{Node}
 use Rattle.model.specs.declared.Connective.{Connective}
 use Rattle.model.specs.declared.Kind.{Kind}
 use Rattle.model.specs.declared.Stage.{Stage}

@@ -9,12 +9,13 @@ use lib.Dec.{ltb}
 use lib.ListN.{getD, length}
 use borrow.Author.Tests.{lt-ltb, le-leb, eq-eqb, ltb-true, ltb-false}
 use Rattle.model.specs.Lists.{build, times}
-use Rattle.model.specs.Blocks.{Node, node}
+use Rattle.model.specs.Blocks.{node}
 use Rattle.model.specs.Nodes.{numberOf, allowed, unusedZero, isFormed, alike, sortBy, sortOf, sorts}
 use Rattle.model.specs.Trees.{Val, Test}
 use Rattle.model.specs.Good.{Width, widthOfValue, GoodValue, GoodTest}
 use Rattle.model.specs.Passive.{Passive, Equation, _then_}
 use Rattle.model.specs.Refusals.{sortAt}
+use Rattle.model.specs.declared.Node.{Node}
 use Rattle.model.specs.declared.Kind.{Kind}
 use Rattle.model.specs.declared.Stage.{Stage}
 use Rattle.model.specs.declared.Sort.{Sort}

@@ -11,6 +11,7 @@ pub mod GoodForms
 pub mod Within
 -- what Check accepts is well formed
 pub mod Refusals
+pub mod First
 pub mod Sorts
 pub mod Decoded
 pub mod Accepted

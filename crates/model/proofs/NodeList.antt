@@ -7,12 +7,13 @@ use mathlib.Core.List.{List, [], _∷_, _++_}
 use lib.ListN.{getD, length, length-append, List·getD-append}
 use lib.Seq.{getD-append-add}
 use Rattle.model.specs.Lists.{if_then_else_, word}
-use Rattle.model.specs.Blocks.{Node, node, words, plainNode}
+use Rattle.model.specs.Blocks.{node, words, plainNode}
 use Rattle.model.specs.Nodes.{numberOf}
 use Rattle.model.specs.Trees.{Val, Test}
 use Rattle.model.specs.Passive.{Passive, Equation, _then_}
 use Rattle.model.specs.Emit.{Piece, past, top, leaf, one, two, three, emitValue, emitTest, emitEquations, emit}
 use Rattle.model.specs.Condition.{nodeCount}
+use Rattle.model.specs.declared.Node.{Node}
 use Rattle.model.specs.declared.Comparison.{Comparison}
 use Rattle.model.specs.declared.Kind.{Kind}
 

@@ -11,12 +11,15 @@ use lib.Pow.{pow-mono}
 use borrow.Author.Tests.{eqb-true, ltb-true, lt-ltb, leb-true}
 use Rattle.bits.specs.Width.{fits}
 use Rattle.model.specs.Lists.{build, times}
-use Rattle.model.specs.Blocks.{Node, words, plainNode}
-use Rattle.model.specs.Nodes.{kindOf, allowed, Role, child, number, unused, roles, zeroIn, unusedZero, widthOf, isTest, isStatement, isFormed, isWidth, isValue, alike, only, sortBy, sortOf}
+use Rattle.model.specs.Blocks.{words, plainNode}
+use Rattle.model.specs.Nodes.{kindOf, allowed, roles, zeroIn, unusedZero, widthOf, isTest, isStatement, isFormed, isWidth, isValue, alike, only, sortBy, sortOf}
 use Rattle.model.specs.Passive.{Passive}
 use Rattle.model.specs.Emit.{formLimit, emit}
 use Rattle.model.specs.Condition.{no, conditionOf}
+use Rattle.model.specs.declared.Node.{Node}
 use Rattle.model.specs.declared.Kind.{Kind}
+use Rattle.model.specs.declared.Role.{Role}
+use Rattle.model.specs.declared.Role.the-variants.{Child, Number, Unused}
 use Rattle.model.specs.declared.Stage.{Stage}
 use Rattle.model.specs.declared.Sort.{Sort}
 use Rattle.model.proofs.Booleans.{both-true}
@@ -84,14 +87,14 @@ module _ (ws : List ℕ) (all : AllWidths ws) where
 
 -- what a word must be in its role, of node i; that an unused one is 0 is tested for every kind alike
 abbrev InRole : ℕ → Role → ℕ → Type 0
-InRole i child x = x < i
-InRole i number x = x < 2 ^ 32
-InRole i unused x = Unit {0}
+InRole i Child x = x < i
+InRole i Number x = x < 2 ^ 32
+InRole i Unused x = Unit {0}
 
 role-fits : (i : ℕ) (r : Role) (x : ℕ) → i ≤ 2 ^ 32 → zeroIn r x ≡ true → InRole i r x → x < 2 ^ 32
-role-fits i child x h z f = omega arith
-role-fits i number x h z f = f
-role-fits i unused x h z f = omega (arith, eqb-true x 0 z)
+role-fits i Child x h z f = omega arith
+role-fits i Number x h z f = f
+role-fits i Unused x h z f = omega (arith, eqb-true x 0 z)
 
 module _ (ws : List ℕ) (few : length ws ≤ 2 ^ 32) (i : ℕ) (g : ℕ → Sort) (narrow : (x : ℕ) → widthOf (g x) ≤ 32)
     (before : (x : ℕ) → isFormed (g x) ≡ true → x < i) where

@@ -5,6 +5,7 @@ use mathlib.Core.List.{List, [], _∷_}
 use lib.ListN.{length}
 use Rattle.model.specs.Lists.{word, each}
 use Rattle.model.specs.declared.Group.{Group}
+use Rattle.model.specs.declared.Node.{Node}
 
 -- how many words a record has
 abbrev pub size : Group → ℕ
@@ -63,12 +64,6 @@ abbrev pub widths : List ℕ → List ℕ
 widths p = each (width p) (F p)
 
 -- a node: kind, a, b, c
-pub record Node : Type 0 where
-  pub kind : ℕ
-  pub a : ℕ
-  pub b : ℕ
-  pub c : ℕ
-
 abbrev pub node : ℕ → ℕ → ℕ → ℕ → Node
 node kind a b c = record { kind = kind; a = a; b = b; c = c }
 

@@ -8,7 +8,7 @@ use lib.Dec.{eqb, ltb, leb}
 use lib.ListN.{length, drop, replicate}
 use denote.Ref.{RefT}
 use Rattle.model.specs.Lists.{if_then_else_}
-use Rattle.model.specs.Blocks.{F, T, Node, words}
+use Rattle.model.specs.Blocks.{F, T, words}
 use Rattle.model.specs.Files.{Held, whole, fault, held, pipelineOf, rulesOf}
 use Rattle.model.specs.Trees.{Bits, bitsIn}
 use Rattle.model.specs.Tables.{hit, partOf, partWords}
@@ -19,6 +19,7 @@ use Rattle.model.specs.Walk.{packetOf, choicesOf}
 use Rattle.model.specs.Answers as said
 use Rattle.model.specs.Answers.{Answer, done, refused, after, told, yesOrNo}
 use Rattle.model.specs.Refusals.{Row, judge, once, room, checkRows, packetRows, valuationRows, conditionRows, evaluateRows, lateRow}
+use Rattle.model.specs.declared.Node.{Node}
 use Rattle.model.specs.declared.Part.{Part}
 use Rattle.model.specs.declared.Loaded.{Loaded}
 use Rattle.model.specs.declared.Checked.{Checked}

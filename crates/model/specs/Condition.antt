@@ -6,10 +6,11 @@ use mathlib.Core.List.{List, [], _∷_, _++_}
 use lib.Dec.{eqb, ltb}
 use lib.ListN.{length, getD}
 use Rattle.model.specs.Lists.{if_then_else_, build, joined}
-use Rattle.model.specs.Blocks.{Node, node, plainNode, size}
+use Rattle.model.specs.Blocks.{node, plainNode, size}
 use Rattle.model.specs.Nodes.{kindOf, renumbered}
 use Rattle.model.specs.Trees.{Bits, ofWidth, binaryBits, complementBits, sliceBits, joinBits, compareBits, connected}
 use Rattle.model.specs.declared.Group.{Group}
+use Rattle.model.specs.declared.Node.{Node}
 use Rattle.model.specs.declared.Kind.{Kind}
 use Rattle.model.specs.declared.Stage.{Stage}
 

@@ -5,8 +5,9 @@ use Prim.Native.Nat.{ℕ, _+_, _-_}
 use mathlib.Core.List.{List, [], _∷_, _++_}
 use lib.ListN.{length}
 use Rattle.model.specs.Lists.{if_then_else_}
-use Rattle.model.specs.Blocks.{Node, node}
+use Rattle.model.specs.Blocks.{node}
 use Rattle.model.specs.Nodes.{numberOf}
+use Rattle.model.specs.declared.Node.{Node}
 use Rattle.model.specs.declared.Kind.{Kind}
 use Rattle.model.specs.Trees.{Val, Test}
 use Rattle.model.specs.Passive.{Passive, Equation, _then_, passive}

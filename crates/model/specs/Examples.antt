@@ -6,13 +6,14 @@ use mathlib.Core.Bool.{Bool, true, false}
 use mathlib.Core.List.{List, [], _∷_, _++_}
 use lib.ListN.{length}
 use Rattle.bits.specs.Width.{sum, difference, slice, join, less, under}
-use Rattle.model.specs.Blocks.{Node, words}
+use Rattle.model.specs.Blocks.{words}
 use Rattle.model.specs.Tables.{partWords}
 use Rattle.model.specs.Emit.{passiveForm}
 use Rattle.model.specs.Answers.{Answer, done, after, told}
 use Rattle.model.specs.Condition.{lastTruth}
 use Rattle.model.specs.Calls as calls
 use Rattle.model.specs.Listing.{listing}
+use Rattle.model.specs.declared.Node.{Node}
 
 -- What the calls answer, with all the room that they need: the looked-up words; a run's ending, node, entries used and packet; n and V of the passive form;
 -- the condition's entries; its truth under a valuation; the packet and the choices taken out of a valuation.

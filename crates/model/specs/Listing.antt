@@ -3,10 +3,10 @@ use Prim.Native.Nat.{ℕ, _+_, _*_}
 use mathlib.Core.List.{List, [], _∷_, _++_}
 use lib.ListN.{length}
 use Rattle.model.specs.Bytes.{decimal}
-use Rattle.model.specs.Blocks.{Node}
 use Rattle.model.specs.Emit.{Emitted}
 use Rattle.model.specs.Answers.{Answer, done, refused, after}
 use Rattle.model.specs.Calls as calls
+use Rattle.model.specs.declared.Node.{Node}
 
 -- the room that it lends: words for each block, passive nodes, widths
 abbrev pub blockRoom : ℕ

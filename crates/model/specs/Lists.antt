@@ -49,6 +49,11 @@ unfoldable pub firstNot : (ℕ → Bool) → ℕ → Option ℕ
 firstNot test zero = none
 firstNot test (suc n) = earlier (firstNot test n) (if test n then none else some n)
 
+-- the place that was found, or the count where none was
+abbrev pub orCount : ℕ → Option ℕ → ℕ
+orCount n none = n
+orCount n (some i) = i
+
 -- those of the list of which the test holds
 unfoldable pub those : (ℕ → Bool) → List ℕ → List ℕ
 those test [] = []

@@ -8,10 +8,14 @@ use lib.ListN.{length, getD}
 use Rattle.bits.specs.Width.{fits}
 use Rattle.bits.specs.declared.Op.{Op}
 use Rattle.model.specs.Lists.{if_then_else_, within, build, among}
-use Rattle.model.specs.Blocks.{Node, node}
+use Rattle.model.specs.Blocks.{node}
+use Rattle.model.specs.declared.Node.{Node}
 use Rattle.model.specs.declared.Comparison.{Comparison}
 use Rattle.model.specs.declared.Connective.{Connective}
 use Rattle.model.specs.declared.Kind.{Kind}
+use Rattle.model.specs.declared.Role.{Role}
+use Rattle.model.specs.declared.Role.the-variants.{Child, Number, Unused}
+use Rattle.model.specs.declared.Roles.{Roles}
 use Rattle.model.specs.declared.Stage.{Stage}
 use Rattle.model.specs.declared.Sort.{Sort}
 
@@ -73,54 +77,46 @@ abbrev pub kindOf : Stage → ℕ → Kind
 kindOf stage n = if allowed stage n then kindIn kinds n else Kind.Unknown
 
 -- What the words a, b and c of a kind are. A word that its kind doesn't use is 0.
-pub data Role : Type 0 where
-  child number unused : Role
-
-pub record Roles : Type 0 where
-  pub a : Role
-  pub b : Role
-  pub c : Role
-
 abbrev pub are : Role → Role → Role → Roles
 are a b c = record { a = a; b = b; c = c }
 
 abbrev pub roles : Kind → Roles
-roles Kind.Constant = are number number unused
-roles Kind.Field = are number unused unused
-roles Kind.Parameter = are number number unused
-roles (Kind.Binary o) = are child child unused
-roles Kind.Complement = are child unused unused
-roles Kind.Slice = are child number number
-roles Kind.Join = are child child unused
-roles Kind.Select = are child child child
-roles Kind.Truth = are number unused unused
-roles (Kind.Compare o) = are child child unused
-roles Kind.Not = are child unused unused
-roles (Kind.Connect o) = are child child unused
-roles Kind.Skip = are unused unused unused
-roles Kind.Assign = are number child unused
-roles Kind.Havoc = are number unused unused
-roles Kind.Assume = are child unused unused
-roles Kind.Assert = are child unused unused
-roles Kind.Sequence = are child child unused
-roles Kind.Choice = are child child unused
-roles Kind.Apply = are number unused unused
-roles Kind.Unknown = are unused unused unused
+roles Kind.Constant = are Number Number Unused
+roles Kind.Field = are Number Unused Unused
+roles Kind.Parameter = are Number Number Unused
+roles (Kind.Binary o) = are Child Child Unused
+roles Kind.Complement = are Child Unused Unused
+roles Kind.Slice = are Child Number Number
+roles Kind.Join = are Child Child Unused
+roles Kind.Select = are Child Child Child
+roles Kind.Truth = are Number Unused Unused
+roles (Kind.Compare o) = are Child Child Unused
+roles Kind.Not = are Child Unused Unused
+roles (Kind.Connect o) = are Child Child Unused
+roles Kind.Skip = are Unused Unused Unused
+roles Kind.Assign = are Number Child Unused
+roles Kind.Havoc = are Number Unused Unused
+roles Kind.Assume = are Child Unused Unused
+roles Kind.Assert = are Child Unused Unused
+roles Kind.Sequence = are Child Child Unused
+roles Kind.Choice = are Child Child Unused
+roles Kind.Apply = are Number Unused Unused
+roles Kind.Unknown = are Unused Unused Unused
 
 abbrev pub childIn : Role → ℕ → List ℕ
-childIn child x = x ∷ []
-childIn number x = []
-childIn unused x = []
+childIn Child x = x ∷ []
+childIn Number x = []
+childIn Unused x = []
 
 abbrev pub renumberedIn : (ℕ → ℕ) → Role → ℕ → ℕ
-renumberedIn f child x = f x
-renumberedIn f number x = x
-renumberedIn f unused x = x
+renumberedIn f Child x = f x
+renumberedIn f Number x = x
+renumberedIn f Unused x = x
 
 abbrev pub zeroIn : Role → ℕ → Bool
-zeroIn child x = true
-zeroIn number x = true
-zeroIn unused x = eqb x 0
+zeroIn Child x = true
+zeroIn Number x = true
+zeroIn Unused x = eqb x 0
 
 -- a node's children; the node with each child's number changed; its unused words are 0
 abbrev pub children : Node → List ℕ

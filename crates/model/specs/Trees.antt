@@ -8,8 +8,9 @@ use lib.ListN.{getD}
 use Rattle.bits.specs.Width as bits
 use Rattle.bits.specs.declared.Op.{Op}
 use Rattle.model.specs.Lists.{if_then_else_, build}
-use Rattle.model.specs.Blocks.{Node, Call, N, root, pipelineNode, body}
+use Rattle.model.specs.Blocks.{Call, N, root, pipelineNode, body}
 use Rattle.model.specs.Nodes.{kindOf}
+use Rattle.model.specs.declared.Node.{Node}
 use Rattle.model.specs.declared.Comparison.{Comparison}
 use Rattle.model.specs.declared.Connective.{Connective}
 use Rattle.model.specs.declared.Kind.{Kind}

@@ -12,6 +12,14 @@ pub enum Group {
     Root,
 }
 
+// A node: its kind's number and its words.
+pub struct Node {
+    pub kind: u32,
+    pub a: u32,
+    pub b: u32,
+    pub c: u32,
+}
+
 pub enum Comparison {
     Equal,
     Less,
@@ -45,6 +53,19 @@ pub enum Kind {
     Choice,
     Apply,
     Unknown,
+}
+
+// What a word of a node is.
+pub enum Role {
+    Child,
+    Number,
+    Unused,
+}
+
+pub struct Roles {
+    pub a: Role,
+    pub b: Role,
+    pub c: Role,
 }
 
 // Where a list of nodes stands.
