@@ -132,6 +132,11 @@ module _ (p : List ℕ) where
       let none = not-true (exists (standsUnder p us x) (A p)) (rw apply at well) in
       false≢true (sym none ∙ exists-at (standsUnder p us x) (A p) k stands h)
 
+  pub all-widths : ((i : ℕ) → i < F p → isWidth (width p i) ≡ true) → AllWidths (widths p)
+  all-widths h i k =
+      let l : i < F p = rw (length-each (width p) (F p)) at k in
+      rw (each-at (width p) (F p) i 0 l) (width-true (width p i) (h i l))
+
   -- the action is there, and each datum that it uses fits
   pub call-fits : (c : Call) → callWell p c ≡ true
       → (c .action < A p) × ((j : ℕ) → j < 2 → j < parameterCount p (c .action) → word (c .«data») j < 2 ^ parameterWidth p (c .action) j)
@@ -153,6 +158,17 @@ module _ (p : List ℕ) where
       let both = both-true isOne (leb (parameterCount p k) 2) (both-true (isOne && leb (parameterCount p k) 2) used e .0) in
       (both .0, leb-true (parameterCount p k) 2 (both .1))
 
+  pub table-keys : (t : ℕ) → tableWell p t ≡ true
+      → (keyCount p t ≤ 4) × ((j : ℕ) → j < keyCount p t → key p t j < F p) × (callWell p (callAt p (defaultPlace p t)) ≡ true)
+  unfolding tableWell
+  table-keys t e =
+      let well : ℕ → Bool = λ j. ltb (key p t j) (F p) in
+      let used = usedOrZero 4 (keyCount p t) well (key p t) in
+      let a = both-true (leb (keyCount p t) 4 && used) (callWell p (callAt p (defaultPlace p t))) e in
+      let b = both-true (leb (keyCount p t) 4) used (a .0) in
+      let most = leb-true (keyCount p t) 4 (b .0) in
+      (most, λ j l. ltb-true (key p t j) (F p) (used-at 4 (keyCount p t) well (key p t) j (b .1) (omega arith) l), a .1)
+
   -- a statement's number is a node's
   pub statement-below : (i : ℕ) → isStatement (sortAt (pipelineSorts p) i) ≡ true → i < N p
   unfolding pipelineSorts
@@ -166,11 +182,6 @@ zero-data (suc zero) = refl
 zero-data (suc (suc a)) = refl
 
 module _ (p r : List ℕ) (h : Rows p r) where
-  all-widths : AllWidths (widths p)
-  all-widths i k =
-      let l : i < F p = rw (length-each (width p) (F p)) at k in
-      rw (each-at (width p) (F p) i 0 l) (width-true (width p i) (h .three i l))
-
   placed-in-body : (c : Call) → callWell p c ≡ true → (x : ℕ) → among x (nodesUnder p (body p (c .action))) ≡ true → x < N p
       → PlacedAt p 0 (c .«data») x
   placed-in-body c e x stands l =
@@ -189,7 +200,7 @@ module _ (p r : List ℕ) (h : Rows p r) where
   call-good c e =
       let at = body p (c .action) in
       let placed = all-with (λ x. x < N p) (PlacedAt p 0 (c .«data»)) (nodesUnder p at) (placed-in-body c e) (under-below p at) in
-      as-statement (widths p) 0 (action-fits p (c .action) (h .five (c .action) (call-fits p c e .0)) .0) (fits-at p 0 (c .«data») all-widths at placed)
+      as-statement (widths p) 0 (action-fits p (c .action) (h .five (c .action) (call-fits p c e .0)) .0) (fits-at p 0 (c .«data») (all-widths p (h .three)) at placed)
 
   -- ---- the program
 
@@ -202,20 +213,13 @@ module _ (p r : List ℕ) (h : Rows p r) where
   program-good =
       let at = root p in
       let placed = all-with (λ x. x < N p) (PlacedAt p (T p) noData) (nodesUnder p at) (λ x m l. placed-in-program x) (under-below p at) in
-      as-statement (widths p) (T p) (h .seven) (fits-at p (T p) noData all-widths at placed)
+      as-statement (widths p) (T p) (h .seven) (fits-at p (T p) noData (all-widths p (h .three)) at placed)
 
   -- ---- tables and rules
 
   pub table-fits : (t : ℕ) → t < T p
       → (keyCount p t ≤ 4) × ((j : ℕ) → j < keyCount p t → key p t j < F p) × (callWell p (callAt p (defaultPlace p t)) ≡ true)
-  unfolding tableWell
-  table-fits t k =
-      let well : ℕ → Bool = λ j. ltb (key p t j) (F p) in
-      let used = usedOrZero 4 (keyCount p t) well (key p t) in
-      let a = both-true (leb (keyCount p t) 4 && used) (callWell p (callAt p (defaultPlace p t))) (h .six t k) in
-      let b = both-true (leb (keyCount p t) 4) used (a .0) in
-      let most = leb-true (keyCount p t) 4 (b .0) in
-      (most, λ j l. ltb-true (key p t j) (F p) (used-at 4 (keyCount p t) well (key p t) j (b .1) (omega arith) l), a .1)
+  table-fits t k = table-keys p t (h .six t k)
 
   pub rule-fits : (i : ℕ) → i < R r → (tableOf r i < T p) × (every (pairWell p r i) 4 ≡ true) × (callWell p (callAt r (callPlace r i)) ≡ true)
   unfolding ruleWell
@@ -274,7 +278,7 @@ accepted-good p r e =
     record {
       counts = counts p r (h .two);
       widthsLength = length-each (width p) (F p);
-      widthsGood = all-widths p r h;
+      widthsGood = all-widths p (h .three);
       rootBelow = statement-below p (root p) (h .seven);
       programGood = program-good p r h;
       defaultGood = λ t k. call-good p r h (callAt p (defaultPlace p t)) (table-fits p r h t k .2);

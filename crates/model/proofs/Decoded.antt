@@ -7,7 +7,7 @@ use mathlib.Core.List.{List, [], _∷_}
 use lib.Dec.{ltb}
 use lib.ListN.{getD}
 use borrow.Author.Tests.{ltb-true, ltb-false}
-use Rattle.model.specs.Lists.{build}
+use Rattle.model.specs.Lists.{build, among}
 use Rattle.model.specs.Blocks.{N, T, widths, pipelineNode}
 use Rattle.model.specs.Nodes.{kinds, kindIn, children, unusedZero, sortBy, sortOf}
 use Rattle.model.specs.Trees.{Tree, trees, tree, treeOf}
@@ -15,17 +15,18 @@ use Rattle.model.specs.Refusals.{pipelineSorts, sortAt, gathered, underE
 use Rattle.model.specs.declared.Sort.{Sort}
 use Rattle.model.specs.declared.Stage.{Stage}
 use Rattle.model.proofs.Lists.{made, build-at}
-use Rattle.model.proofs.Every.{All, all-append, all-left, all-right, all-with, build-before, build-past, from-below}
+use Rattle.model.proofs.Every.{All, all-append, all-left, all-right, among-here, among-there, all-with, build-before, build-past, from-below}
 use Rattle.model.proofs.GoodForms.{AllWidths}
 use Rattle.model.proofs.Sorts.{OfSort, fit, only-fits, Placed, node-fits}
 
 -- ---- the nodes under a node
 
 module _ (P : ℕ → Type 0) (before : List (List ℕ)) where
-  gathered-all : (cs : List ℕ) → ((c : ℕ) → All P (getD before c [])) → All P (gathered before cs)
+  gathered-all : (cs : List ℕ) → ((c : ℕ) → among c cs ≡ true → All P (getD before c [])) → All P (gathered before cs)
   unfolding gathered
   gathered-all [] h = tt
-  gathered-all (c ∷ cs) h = all-append P (getD before c []) (gathered before cs) (h c) (gathered-all cs h)
+  gathered-all (c ∷ cs) h =
+      all-append P (getD before c []) (gathered before cs) (h c (among-here c cs)) (gathered-all cs (λ d m. h d (among-there d c cs m)))
 
   all-gathered : (cs : List ℕ) → All P (gathered before cs) → All (λ c. All P (getD before c [])) cs
   unfolding gathered
@@ -34,34 +35,39 @@ module _ (P : ℕ → Type 0) (before : List (List ℕ)) where
       (all-left P (getD before c []) (gathered before cs) h, all-gathered cs (all-right P (getD before c []) (gathered before cs) h))
 
 module _ (p : List ℕ) where
-  abbrev underStep : List (List ℕ) → ℕ → List ℕ
+  abbrev pub underStep : List (List ℕ) → ℕ → List ℕ
   underStep before i = i ∷ gathered before (children (pipelineNode p i))
 
   abbrev pub nodesUnder : ℕ → List ℕ
   nodesUnder i = getD (underEach p) i []
 
-  under-at : (i : ℕ) → i < N p → nodesUnder i ≡ i ∷ gathered (build underStep i) (children (pipelineNode p i))
+  pub under-at : (i : ℕ) → i < N p → nodesUnder i ≡ i ∷ gathered (build underStep i) (children (pipelineNode p i))
   unfolding underEach made
   under-at i h = build-at underStep (N p) i [] h
 
-  -- those are nodes of the block
-  pub under-below : (i : ℕ) → All (λ x. x < N p) (nodesUnder i)
+  -- what holds of a node and itself, and of a node and what it holds of with one of its children, holds of it and each that stands under it
+  pub under-all : (P : ℕ → ℕ → Type 0) → ((i : ℕ) → i < N p → P i i)
+      → ((i c x : ℕ) → i < N p → c < i → among c (children (pipelineNode p i)) ≡ true → P c x → P i x) → (i : ℕ) → All (P i) (nodesUnder i)
   unfolding underEach
-  under-below = from-below (λ i. All below (nodesUnder i)) λ i rec. go i rec (ltb i (N p)) refl
+  under-all P self through = from-below (λ i. All (P i) (nodesUnder i)) λ i rec. go i rec (ltb i (N p)) refl
     where
-      below : ℕ → Type 0
-      below x = x < N p
+      child : (i c : ℕ) → i < N p → ((j : ℕ) → j < i → All (P j) (nodesUnder j)) → among c (children (pipelineNode p i)) ≡ true → (b : Bool) → ltb c i ≡ b
+          → All (P i) (getD (build underStep i) c [])
+      child i c h rec m true e =
+          let l = ltb-true c i e in
+          rw (build-before underStep i (N p) c [] l (omega arith)) (all-with (P c) (P i) (nodesUnder c) (λ x _ k. through i c x h l m k) (rec c l))
+      child i c h rec m false e = rw (build-past underStep i c [] (ltb-false c i e)) tt
 
-      child : (i c : ℕ) → i < N p → ((j : ℕ) → j < i → All below (nodesUnder j)) → (b : Bool) → ltb c i ≡ b
-          → All below (getD (build underStep i) c [])
-      child i c h rec true e = rw (build-before underStep i (N p) c [] (ltb-true c i e) (omega arith)) (rec c (ltb-true c i e))
-      child i c h rec false e = rw (build-past underStep i c [] (ltb-false c i e)) tt
-
-      go : (i : ℕ) → ((j : ℕ) → j < i → All below (nodesUnder j)) → (b : Bool) → ltb i (N p) ≡ b → All below (nodesUnder i)
+      go : (i : ℕ) → ((j : ℕ) → j < i → All (P j) (nodesUnder j)) → (b : Bool) → ltb i (N p) ≡ b → All (P i) (nodesUnder i)
       go i rec true e =
           let h = ltb-true i (N p) e in
-          rw (under-at i h) (h, gathered-all below (build underStep i) (children (pipelineNode p i)) (λ c. child i c h rec (ltb c i) refl))
+          rw (under-at i h)
+          (self i h, gathered-all (P i) (build underStep i) (children (pipelineNode p i)) (λ c m. child i c h rec m (ltb c i) refl))
       go i rec false e = rw (build-past underStep (N p) i [] (ltb-false i (N p) e)) tt
+
+  -- those are nodes of the block
+  pub under-below : (i : ℕ) → All (λ x. x < N p) (nodesUnder i)
+  under-below = under-all (λ _ x. x < N p) (λ i h. h) (λ i c x h l m k. k)
 
 -- ---- the trees
 

@@ -3,7 +3,7 @@ use Prim.Native.Nat.{ℕ, zero, suc, _<_, _≤_, suc-le-suc}
 use native.Mathlib.Nat.{not-suc-le-zero, le-of-suc-le-suc, eq-or-lt-of-le, lt-of-lt-of-le, zero-lt-suc}
 use native.Mathlib.Omega.{arith}
 use mathlib.Core.Path.{_≡_, refl, sym, _∙_}
-use mathlib.Core.Bool.{Bool, true, false}
+use mathlib.Core.Bool.{Bool, true, false, _&&_}
 use mathlib.Core.Logic.{_⊎_, inl, inr}
 use mathlib.Core.List.{List, [], _∷_, _++_}
 use lib.Dec.{eqb, ltb}
@@ -11,7 +11,7 @@ use lib.ListN.{getD, length, List·getD-eq-default}
 use borrow.Author.Tests.{eq-eqb, lt-ltb, ltb-true, ltb-false}
 use Rattle.model.specs.Lists.{if_then_else_, build, each, every, exists, those, times, among}
 use Rattle.model.specs.Tables.{placed, ordered}
-use Rattle.model.proofs.Booleans.{both-true}
+use Rattle.model.proofs.Booleans.{both-true, true-both, and-true}
 use Rattle.model.proofs.Lists.{made, length-build, build-at}
 
 -- ---- places
@@ -35,6 +35,26 @@ module _ (test : ℕ → Bool) where
       go k true q rec = refl
       go (inl k) false q rec = rw (← k) e
       go (inr k) false q rec = cc (rec k)
+
+  pub every-all : (n : ℕ) → ((i : ℕ) → i < n → test i ≡ true) → every test n ≡ true
+  unfolding every
+  every-all zero h = refl
+  every-all (suc n) h = true-both (every test n) (test n) (every-all n (λ i k. h i (omega arith))) (h n (omega arith))
+
+  pub exists-none : (n : ℕ) → ((i : ℕ) → i < n → test i ≡ false) → exists test n ≡ false
+  unfolding exists
+  exists-none zero h = refl
+  exists-none (suc n) h = rw (exists-none n (λ i k. h i (omega arith)), h n (omega arith))
+
+  -- of all places but one
+  pub every-one : (n k : ℕ) → k < n → ((i : ℕ) → i < n → (i ≡ k → ⊥) → test i ≡ true) → every test n ≡ test k
+  unfolding every
+  every-one zero k l h = absurd (not-suc-le-zero l)
+  every-one (suc n) k l h = go (eq-or-lt-of-le (le-of-suc-le-suc l)) (λ j. every-one n k j (λ i m. h i (omega arith)))
+    where
+      go : (k ≡ n) ⊎ (k < n) → (k < n → every test n ≡ test k) → every test n && test n ≡ test k
+      go (inl e) rec = rw (e, every-all n (λ i m. h i (omega arith) (λ d. omega arith)))
+      go (inr j) rec = rw (rec j, h n (omega arith) (λ d. omega arith)) (and-true (test k))
 
 -- a list made front to back: an earlier one has what a later one has, and past its end there is nothing
 module _ {A : Type 0} (f : List A → ℕ → A) where
@@ -132,11 +152,11 @@ module _ (P : ℕ → Type 0) where
       go false e rec = rec
 
 -- an element stands in its list
-among-here : (x : ℕ) (xs : List ℕ) → among x (x ∷ xs) ≡ true
+pub among-here : (x : ℕ) (xs : List ℕ) → among x (x ∷ xs) ≡ true
 unfolding times
 among-here x xs = rw (eq-eqb x x refl) (lt-ltb 0 (suc (times x xs)) (omega arith))
 
-among-there : (x y : ℕ) (xs : List ℕ) → among x xs ≡ true → among x (y ∷ xs) ≡ true
+pub among-there : (x y : ℕ) (xs : List ℕ) → among x xs ≡ true → among x (y ∷ xs) ≡ true
 unfolding times
 among-there x y xs h = go (eqb x y)
   where

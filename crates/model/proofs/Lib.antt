@@ -5,9 +5,12 @@ pub mod Examples
 pub mod Booleans
 pub mod Lists
 pub mod Every
+pub mod Times
 pub mod KindNumbers
 pub mod SortTests
+pub mod Children
 pub mod GoodForms
+pub mod SortWidths
 pub mod Within
 -- what Check accepts is well formed
 pub mod Refusals
@@ -15,6 +18,7 @@ pub mod First
 pub mod Sorts
 pub mod Decoded
 pub mod Accepted
+pub mod Uses
 -- refusals are exact, and each call has one answer: demand 1
 pub mod Hits
 pub mod CallRefusals

@@ -50,6 +50,12 @@ module _ {A : Type 0} (f : ℕ → A) where
   unfolding made
   each-at n i d h = ap (λ (xs : List A). getD xs i d) (each-build n) ∙ build-at (λ before i. f i) n i d h
 
+  -- place by place, or piece by piece with one element to a piece
+  pub each-joined : (n : ℕ) → each f n ≡ joined (λ i. f i ∷ []) n
+  unfolding each joined
+  each-joined zero = refl
+  each-joined (suc n) = ap (λ (xs : List A). xs ++ (f n ∷ [])) (each-joined n)
+
 -- ---- `joined`, of pieces that are all k long
 
 module _ {A : Type 0} (f : ℕ → List A) (k : ℕ) (sized : (i : ℕ) → length (f i) ≡ k) where

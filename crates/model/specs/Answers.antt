@@ -47,6 +47,11 @@ refusalOf Refusal.True = refused 16 0
 refusalOf (Refusal.Condition at) = refused 17 at
 refusalOf (Refusal.Form at) = refused 18 at
 
+-- a refusal's place
+abbrev pub placeIn : Answer (List ℕ) → ℕ
+placeIn (done xs) = 0
+placeIn (refused number place) = place
+
 -- Load gives the two blocks' lengths
 abbrev pub loaded : Loaded → Answer (List ℕ)
 loaded (Loaded.Blocks pipeline rules) = done (pipeline ∷ rules ∷ [])

@@ -1,0 +1,31 @@
+-- What a call for C returns is decided by its answer. Assumes nothing.
+use Prim.Native.Nat.{ℕ}
+use mathlib.Core.Path.{_≡_, refl, sym, _∙_, ap, subst}
+use mathlib.Core.List.{List, [], _∷_}
+use Rattle.model.specs.Lists.{word}
+use Rattle.model.specs.Answers.{Answer, done, refused, placeIn}
+use Rattle.capi.specs.Returns.{Returns}
+
+-- two returns that meet the statement for one answer are equal
+pub one-return : {answer : Answer (List ℕ)} {r first second third r′ first′ second′ third′ : ℕ}
+    → Returns answer r first second third → Returns answer r′ first′ second′ third′
+    → _≡_ {A = ℕ × ℕ × ℕ × ℕ} (r, first, second, third) (r′, first′, second′, third′)
+one-return x y = cc
+
+-- a success by its values, and 0 for those that it doesn't have
+pub success : (values : List ℕ) {r first second third : ℕ}
+    → Returns (done (word values 0 ∷ word values 1 ∷ word values 2 ∷ [])) r first second third → Returns (done values) r first second third
+success values h = record { number = h .number; firstValue = h .firstValue; secondValue = h .secondValue; thirdValue = h .thirdValue }
+
+-- a refusal by its number and its place
+pub refusal : {answer : Answer (List ℕ)} {number place : ℕ}
+    → answer ≡ refused number (placeIn answer) → place ≡ placeIn answer → Returns answer number place 0 0
+refusal {answer} {number} {place} e h =
+    let told : answer ≡ refused number place = cc in
+    rw told (record { number = refl; firstValue = refl; secondValue = refl; thirdValue = refl })
+
+-- what is returned for one case of an enum is returned for the answer that the enum tells
+pub told-by : {Enum : Type 0} (said : Enum → Answer (List ℕ)) {answer : Answer (List ℕ)} {told case : Enum} {r first second third : ℕ}
+    → said told ≡ answer → told ≡ case → Returns (said case) r first second third → Returns answer r first second third
+told-by said {r = r} {first = first} {second = second} {third = third} e is h =
+    subst (λ answer. Returns answer r first second third) (sym (ap said is) ∙ e) h

@@ -1,0 +1,13 @@
+-- `capi::refuse` meets its contract. Assumes nothing.
+use borrow.Author.Needs.{needs}
+use Rattle.capi.proofs.refuse.Statement.{statement}
+use Rattle.capi.proofs.refuse.Tie as tie
+use Rattle.capi.proofs.Returns.{refusal}
+
+pub refuse-spec : {M : Type 1} → statement M
+refuse-spec =
+    tie.close
+    (tie.spec
+    (λ c κs. search needs)  -- place-requires
+    (λ c κs. search needs)  -- number-requires
+    (λ c. refusal (c .number .ensures) (c .before .place .ensures)))

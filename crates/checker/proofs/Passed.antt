@@ -1,0 +1,105 @@
+-- What the rows of Check's table that have passed let the later ones rely on. Assumes nothing.
+use Prim.Native.Nat.{ℕ, _-_, _<_, _≤_}
+use native.Mathlib.Nat.{one-mul}
+use native.Mathlib.Omega.{arith}
+use mathlib.Core.Path.{_≡_, refl, sym, _∙_}
+use mathlib.Core.Bool.{Bool, true, false, _&&_}
+use mathlib.Core.List.{List}
+use lib.Dec.{eqb, ltb, leb}
+use lib.ListN.{length, getD, take, drop, length-take, length-drop, List·getD-eq-default}
+use lib.Seq.{ext-getD, getD-take, getD-drop}
+use borrow.Author.Tests.{lt-ltb, le-ltb, ltb-true, ltb-false, eqb-true}
+use Rattle.bits.specs.Width.{fits, under}
+use Rattle.model.specs.Lists.{if_then_else_, word, every}
+use Rattle.model.specs.Blocks.{F, N, A, T, fieldPlace, nodePlace, width, widths, Call, pipelineNode, callAt, parameterCount, parameterWidth, keyCount, key, tableOf, value, mask, callPlace}
+use Rattle.model.specs.Nodes.{sortOf}
+use Rattle.model.specs.Refusals.{pipelineSorts, callWell, pairWell, ruleWell}
+use Rattle.model.specs.declared.Sort.{Sort}
+use Rattle.model.specs.declared.Stage.{Stage}
+use Rattle.model.proofs.SortTests.{width-true}
+use Rattle.model.proofs.SortWidths.{all-narrow}
+use Rattle.model.proofs.Accepted.{all-widths}
+use Rattle.model.proofs.Lists.{length-build, length-each, each-at}
+use Rattle.blocks.specs.Whole.{Whole}
+use Rattle.nodes.specs.Codes.{sortFrom, Coded, sortsFrom, firstMalformed}
+use Rattle.checker.specs.Passed.{Narrow, Keyed, firstIn, nodeRow}
+
+-- what three words say, by whether their action is there
+module _ (p : List ℕ) (k : Call) (action : ℕ) (e : action ≡ k .action) where
+  abbrev datumWell : ℕ → Bool
+  datumWell j = if ltb j (parameterCount p action) then fits (parameterWidth p action j) (word (k .«data») j) else eqb (word (k .«data») j) 0
+
+  pub call-there : (b : Bool) → action < A p → b ≡ datumWell 0 && datumWell 1 → b ≡ callWell p k
+  unfolding callWell every
+  call-there b h q = rw (← e, lt-ltb action (A p) h) q
+
+  pub call-nowhere : A p ≤ action → false ≡ callWell p k
+  unfolding callWell
+  call-nowhere h = rw (← e, le-ltb action (A p) h)
+
+-- a used key is a field, and a field's width is narrow
+pub key-there : (p : List ℕ) (t j f : ℕ) → Keyed p → t < T p → j < keyCount p t → f ≡ key p t j → f < F p
+key-there p t j f h k l e = rw e (h .at t j k l)
+
+pub narrow-there : (p : List ℕ) (f w : ℕ) → Narrow p → f < F p → w ≡ width p f → w ≤ 32
+narrow-there p f w h k e = rw e (width-true (width p f) (h .at f k) .1)
+
+-- what a rule says, by whether its table is there
+module _ (p r : List ℕ) (i t : ℕ) (e : t ≡ tableOf r i) where
+  pub rule-there : (b : Bool) → t < T p → b ≡ every (pairWell p r i) 4 && callWell p (callAt r (callPlace r i)) → b ≡ ruleWell p r i
+  unfolding ruleWell
+  rule-there b h q = rw (← e, lt-ltb t (T p) h) q
+
+  pub rule-nowhere : T p ≤ t → false ≡ ruleWell p r i
+  unfolding ruleWell
+  rule-nowhere h = rw (← e, le-ltb t (T p) h)
+
+  -- what a pair says, by whether its table has so many keys
+  pub pair-used : (j w : ℕ) (b : Bool) → j < keyCount p t → w ≡ width p (key p t j)
+      → b ≡ fits w (mask r i j) && under (mask r i j) (value r i j) (value r i j) → b ≡ pairWell p r i j
+  unfolding pairWell
+  pair-used j w b h d q = rw (← e, lt-ltb j (keyCount p t) h, ← d) q
+
+  pub pair-unused : (j : ℕ) (b : Bool) → keyCount p t ≤ j → b ≡ eqb (value r i j) 0 && eqb (mask r i j) 0 → b ≡ pairWell p r i j
+  unfolding pairWell
+  pair-unused j b h q = rw (← e, le-ltb j (keyCount p t) h) q
+
+-- ---- the sorts of the block's nodes
+
+pub sorts-length : (p : List ℕ) → length (pipelineSorts p) ≡ N p
+unfolding pipelineSorts
+sorts-length p = length-build (λ before i. sortOf Stage.Pipeline (widths p) (T p) before (pipelineNode p i)) (N p)
+
+-- the fields' widths are a part of the block
+widths-there : (p : List ℕ) → Whole p → take (F p) (drop 5 p) ≡ widths p
+widths-there p h = ext-getD 0 (take (F p) (drop 5 p)) (widths p) long at
+  where
+    long : length (take (F p) (drop 5 p)) ≡ length (widths p)
+    long = simp (length-take, length-drop, length-each) (omega arith)
+
+    at : (i : ℕ) → i < length (take (F p) (drop 5 p)) → getD (take (F p) (drop 5 p)) i 0 ≡ getD (widths p) i 0
+    at i k =
+        let l : i < F p = omega (arith, rw (long, length-each (width p) (F p)) at k) in
+        rw (getD-take, getD-drop, each-at (width p) (F p) i 0 l, one-mul)
+
+pub sorts-there : (p ws : List ℕ) (from : ℕ) → Whole p → from ≡ nodePlace p 0 → ws ≡ take (from - 5) (drop 5 p)
+    → sortsFrom Stage.Pipeline p from (N p) ws (T p) ≡ pipelineSorts p
+unfolding pipelineSorts
+sorts-there p ws from h e d =
+    let place : from ≡ fieldPlace p (F p) = omega arith in
+    let fields : from - 5 ≡ F p = omega arith in
+    rw (d, fields, widths-there p h, place)
+
+-- 3 lets all of them, and what stands past the last, be narrow
+pub narrow-words : (p ws : List ℕ) (from : ℕ) → Whole p → Narrow p → from ≡ nodePlace p 0 → ws ≡ take (from - 5) (drop 5 p) → (x : ℕ) → word ws x ≤ 32
+narrow-words p ws from h k e d x =
+    let fields : from - 5 ≡ F p = omega arith in
+    rw (d, fields, widths-there p h) (all-narrow (widths p) (all-widths p (k .at)) x)
+
+-- the first malformed node is the place that 4 gives
+pub nodes-found : (p ws codes : List ℕ) (from count tables x : ℕ) → Whole p → from ≡ nodePlace p 0 → ws ≡ take (from - 5) (drop 5 p)
+    → count ≡ N p → tables ≡ T p → x ≡ firstMalformed Stage.Pipeline p from count ws tables → Coded codes (sortsFrom Stage.Pipeline p from count ws tables) x
+    → (x ≡ firstIn (nodeRow p)) × Coded codes (pipelineSorts p) x
+nodes-found p ws codes from count tables x h e d n t first coded =
+    let same = sorts-there p ws from h e d in
+    (rw (n, t, same) at first, rw (n, t, same) at coded)

@@ -1,0 +1,52 @@
+"""Pipeline blocks and rule blocks for the tests, made piece by piece, well formed or not."""
+
+HUGE = 4294967295
+
+# the kinds of nodes
+CONSTANT, FIELD, PARAMETER, SUM, DIFFERENCE, AND, OR, XOR, COMPLEMENT, SLICE, JOIN, SELECT = range(1, 13)
+TRUTH, EQUAL, LESS, NOT, BOTH, EITHER = range(16, 22)
+SKIP, ASSIGN, HAVOC, ASSUME, ASSERT, SEQUENCE, CHOICE, APPLY = range(32, 40)
+
+VALUES = range(CONSTANT, SELECT + 1)
+TESTS = range(TRUTH, EITHER + 1)
+STATEMENTS = range(SKIP, APPLY + 1)
+KINDS = [*VALUES, *TESTS, *STATEMENTS]
+NAMES = dict(zip(KINDS, 'constant field parameter sum difference and or xor complement slice join select truth equal less not both either '
+                 'skip assign havoc assume assert sequence choice apply'.split()))
+
+# what the words a, b, c of a kind are: v, t, s a child that is a value, a test, a statement; n a number; - unused
+WORDS = {CONSTANT: 'nn-', FIELD: 'n--', PARAMETER: 'nn-', SUM: 'vv-', DIFFERENCE: 'vv-', AND: 'vv-', OR: 'vv-', XOR: 'vv-',
+         COMPLEMENT: 'v--', SLICE: 'vnn', JOIN: 'vv-', SELECT: 'tvv', TRUTH: 'n--', EQUAL: 'vv-', LESS: 'vv-', NOT: 't--', BOTH: 'tt-',
+         EITHER: 'tt-', SKIP: '---', ASSIGN: 'nv-', HAVOC: 'n--', ASSUME: 't--', ASSERT: 't--', SEQUENCE: 'ss-', CHOICE: 'ss-', APPLY: 'n--'}
+
+
+class Pipeline:
+    """A pipeline block, made piece by piece. Each piece answers its number."""
+
+    def __init__(self, *widths):
+        self.widths, self.nodes, self.actions, self.tables, self.root = list(widths), [], [], [], 0
+
+    def node(self, kind, a=0, b=0, c=0):
+        self.nodes.append([kind, a, b, c])
+        return len(self.nodes) - 1
+
+    def nodes_of(self, *kinds_and_words):
+        return [self.node(*words) for words in kinds_and_words]
+
+    def action(self, body, *widths):
+        self.actions.append([body, len(widths), *widths, *[0] * (2 - len(widths))])
+        return len(self.actions) - 1
+
+    def table(self, keys, action, *values):
+        self.tables.append([len(keys), *keys, *[0] * (4 - len(keys)), action, *values, *[0] * (2 - len(values))])
+        return len(self.tables) - 1
+
+    def words(self):
+        records = [word for group in (self.nodes, self.actions, self.tables) for record in group for word in record]
+        return [len(self.widths), len(self.nodes), len(self.actions), len(self.tables), self.root, *self.widths, *records]
+
+
+def rule(table, pairs, action, *values):
+    """A rule: its pairs are value, then mask."""
+    flat = [word for pair in pairs for word in pair]
+    return [table, *flat, *[0] * (8 - len(flat)), action, *values, *[0] * (2 - len(values))]
