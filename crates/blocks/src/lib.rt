@@ -7,6 +7,19 @@ ghost use Rattle.model.specs.Lists.{word};
 ghost use Rattle.model.specs.Blocks.{F, N, A as actions, T, R, root, width, nodePlace, actionPlace, tablePlace, rulePlace, nodeAt, pipelineNode, body, parameterCount, parameterWidth, keyCount, key, defaultPlace, tableOf, value, mask, callPlace};
 ghost use Rattle.blocks.specs.Whole.{Whole};
 
+// How many words stand before the first record of a pipeline block, and how many a record has.
+pub const HEAD: usize = 5;
+
+pub const FIELD: usize = 1;
+
+pub const NODE: usize = 4;
+
+pub const ACTION: usize = 4;
+
+pub const TABLE: usize = 8;
+
+pub const RULE: usize = 12;
+
 // A word as a number of the machine.
 pub fn wide(x: u32) -> usize
     ensures { λ r. ⌜ r ≡ x ⌝ }
@@ -62,7 +75,7 @@ pub fn width(p: &[u32], i: usize) -> u32
     requires { ⌜ i < F (now p) ⌝ }
     ensures { λ r. ⌜ r ≡ width (now (p .entry)) i ⌝ }
 {
-    word(p, 5 + i)
+    word(p, HEAD + FIELD * i)
 }
 
 // The node whose words stand at a place.
@@ -83,7 +96,7 @@ pub fn node_place(p: &[u32], i: usize) -> usize
     requires { ⌜ i ≤ N (now p) ⌝ }
     ensures { λ r. ⌜ r ≡ nodePlace (now (p .entry)) i ⌝ }
 {
-    5 + field_count(p) + 4 * i
+    HEAD + FIELD * field_count(p) + NODE * i
 }
 
 pub fn node(p: &[u32], i: usize) -> Node
@@ -99,7 +112,7 @@ pub fn action_place(p: &[u32], i: usize) -> usize
     requires { ⌜ i ≤ actions (now p) ⌝ }
     ensures { λ r. ⌜ r ≡ actionPlace (now (p .entry)) i ⌝ }
 {
-    node_place(p, node_count(p)) + 4 * i
+    node_place(p, node_count(p)) + ACTION * i
 }
 
 pub fn body(p: &[u32], i: usize) -> u32
@@ -132,7 +145,7 @@ pub fn table_place(p: &[u32], i: usize) -> usize
     requires { ⌜ i ≤ T (now p) ⌝ }
     ensures { λ r. ⌜ r ≡ tablePlace (now (p .entry)) i ⌝ }
 {
-    action_place(p, action_count(p)) + 8 * i
+    action_place(p, action_count(p)) + TABLE * i
 }
 
 pub fn key_count(p: &[u32], i: usize) -> u32
@@ -163,14 +176,14 @@ pub fn default_place(p: &[u32], i: usize) -> usize
 pub fn rule_count(r: &[u32]) -> usize
     ensures { λ n. ⌜ n ≡ R (now (r .entry)) ⌝ }
 {
-    r.len() / 12
+    r.len() / RULE
 }
 
 pub fn rule_place(r: &[u32], i: usize) -> usize
     requires { ⌜ i < R (now r) ⌝ }
     ensures { λ n. ⌜ n ≡ rulePlace (now (r .entry)) i ⌝ }
 {
-    12 * i
+    RULE * i
 }
 
 pub fn table_of(r: &[u32], i: usize) -> u32

@@ -2,26 +2,25 @@
 use Prim.Native.Nat.{ℕ, _-_, _<_, _≤_}
 use native.Mathlib.Nat.{one-mul}
 use native.Mathlib.Omega.{arith}
-use mathlib.Core.Path.{_≡_, refl, sym, _∙_}
-use mathlib.Core.Bool.{Bool, true, false, _&&_}
+use mathlib.Core.Path.{_≡_}
+use mathlib.Core.Bool.{Bool, false, _&&_}
 use mathlib.Core.List.{List}
-use lib.Dec.{eqb, ltb, leb}
-use lib.ListN.{length, getD, take, drop, length-take, length-drop, List·getD-eq-default}
+use lib.Dec.{eqb, ltb}
+use lib.ListN.{length, getD, take, drop, length-take, length-drop}
 use lib.Seq.{ext-getD, getD-take, getD-drop}
-use borrow.Author.Tests.{lt-ltb, le-ltb, ltb-true, ltb-false, eqb-true}
+use borrow.Author.Tests.{lt-ltb, le-ltb}
 use Rattle.bits.specs.Width.{fits, under}
 use Rattle.model.specs.Lists.{if_then_else_, word, every}
 use Rattle.model.specs.Blocks.{F, N, A, T, fieldPlace, nodePlace, width, widths, Call, pipelineNode, callAt, parameterCount, parameterWidth, keyCount, key, tableOf, value, mask, callPlace}
 use Rattle.model.specs.Nodes.{sortOf}
 use Rattle.model.specs.Refusals.{pipelineSorts, callWell, pairWell, ruleWell}
-use Rattle.model.specs.declared.Sort.{Sort}
 use Rattle.model.specs.declared.Stage.{Stage}
 use Rattle.model.proofs.SortTests.{width-true}
 use Rattle.model.proofs.SortWidths.{all-narrow}
 use Rattle.model.proofs.Accepted.{all-widths}
 use Rattle.model.proofs.Lists.{length-build, length-each, each-at}
 use Rattle.blocks.specs.Whole.{Whole}
-use Rattle.nodes.specs.Codes.{sortFrom, Coded, sortsFrom, firstMalformed}
+use Rattle.nodes.specs.Codes.{Coded, sortsFrom, firstMalformed}
 use Rattle.checker.specs.Passed.{Narrow, Keyed, firstIn, nodeRow}
 
 -- what three words say, by whether their action is there

@@ -4,10 +4,10 @@ use model::Refusal;
 use model::Stage;
 use nodes::both;
 ghost use mathlib.Core.Path.{_≡_};
-ghost use mathlib.Core.Bool.{Bool, _&&_};
+ghost use mathlib.Core.Bool.{_&&_};
 ghost use mathlib.Core.List.{[]};
-ghost use Prim.Native.Nat.{ℕ, _+_, _*_, _≤_, _<_, _^_};
-ghost use lib.Dec.{eqb, ltb};
+ghost use Prim.Native.Nat.{_+_, _*_, _≤_, _<_, _^_};
+ghost use lib.Dec.{eqb, ltb, leb};
 ghost use lib.ListN.{length};
 ghost use Rattle.bits.specs.Width.{fits};
 ghost use Rattle.model.specs.Lists.{if_then_else_, within, every, word};
@@ -39,22 +39,32 @@ fn pipeline_length(p: &[u32]) -> usize
     requires { ⌜ 5 ≤ length (now p) ⌝ }
     ensures { λ r. ⌜ r ≡ pipelineLength (now (p .entry)) ⌝ }
 {
-    5 + count_at(p, 0) + 4 * count_at(p, 1) + 4 * count_at(p, 2) + 8 * count_at(p, 3)
+    let fields = blocks::FIELD * count_at(p, 0);
+    let nodes = blocks::NODE * count_at(p, 1);
+    let actions = blocks::ACTION * count_at(p, 2);
+    let tables = blocks::TABLE * count_at(p, 3);
+    blocks::HEAD + fields + nodes + actions + tables
+}
+
+// The limits of the counts.
+fn limits_well(p: &[u32]) -> bool
+    requires { ⌜ 5 ≤ length (now p) ⌝ }
+    ensures { λ r. ⌜ r ≡ (within 1 32 (F (now (p .entry))) && within 1 1024 (N (now (p .entry))) && leb (actions (now (p .entry))) 64 && leb (T (now (p .entry))) 32) ⌝ }
+{
+    let fields = within(1, 32, p[0]);
+    let nodes = within(1, 1024, p[1]);
+    both(both(both(fields, nodes), p[2] <= 64), p[3] <= 32)
 }
 
 fn counts_well(p: &[u32], r: &[u32]) -> bool
     ensures { λ b. ⌜ b ≡ countsWell (now (p .entry)) (now (r .entry)) ⌝ }
 {
-    if p.len() < 5 {
+    if p.len() < blocks::HEAD {
         return false;
     }
-    let fields = within(1, 32, p[0]);
-    let nodes = both(fields, within(1, 1024, p[1]));
-    let actions = both(nodes, p[2] <= 64);
-    let tables = both(actions, p[3] <= 32);
-    let pipeline = both(tables, p.len() == pipeline_length(p));
-    let rules = both(pipeline, r.len() % 12 == 0);
-    both(rules, r.len() / 12 <= 256)
+    let pipeline = both(limits_well(p), p.len() == pipeline_length(p));
+    let rules = both(pipeline, r.len() % blocks::RULE == 0);
+    both(rules, blocks::rule_count(r) <= 256)
 }
 
 fn first_width(p: &[u32]) -> usize
@@ -80,7 +90,7 @@ fn first_node(p: &[u32], codes: &mut [u8; 1024]) -> usize
     ensures { λ r. ⌜ Coded (now (codes .exit)) (pipelineSorts (now (p .entry))) r ⌝ }
 {
     let from = blocks::node_place(p, 0);
-    let widths = &p[5..from];
+    let widths = &p[blocks::HEAD..from];
     nodes::first_malformed(
         Stage::Pipeline,
         p,

@@ -1,11 +1,11 @@
 -- How a loop finds the first place of which a test does not hold, and what the place that it found says. Assumes nothing.
-use Prim.Native.Nat.{ℕ, suc, _+_, _<_, _≤_}
+use Prim.Native.Nat.{ℕ, _+_, _<_, _≤_}
 use native.Mathlib.Numerals.{add-one}
 use native.Mathlib.Omega.{arith}
-use mathlib.Core.Path.{_≡_, refl, sym}
+use mathlib.Core.Path.{_≡_, refl}
 use mathlib.Core.Bool.{Bool, true, false}
 use mathlib.Core.Option.{Option, none, some}
-use Rattle.model.specs.Lists.{earlier, firstNot, orCount}
+use Rattle.model.specs.Lists.{firstNot, orCount}
 use Rattle.model.proofs.Refusals.{Found, found, not-before}
 
 module _ (test : ℕ → Bool) where

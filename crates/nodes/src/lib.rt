@@ -377,7 +377,7 @@ pub fn first_malformed(
 {
     let mut i = 0;
     while i < count {
-        let n = blocks::node_at(ws, from + 4 * i);
+        let n = blocks::node_at(ws, from + blocks::NODE * i);
         let s = Three {
             a: sort_in(codes, i, n.a),
             b: sort_in(codes, i, n.b),
