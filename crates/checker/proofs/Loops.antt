@@ -7,7 +7,7 @@ use mathlib.Core.Option.{none}
 use Rattle.model.specs.Lists.{firstNot}
 use Rattle.model.specs.Refusals.{Row}
 use Rattle.model.proofs.First.{first-none, first-more, first-stop, first-end}
-use Rattle.checker.specs.Passed.{firstIn}
+use Rattle.checker.specs.Rows.{firstIn}
 
 pub record Searched (row : Row) (count i : ℕ) : Type 0 where
   pub whole : count ≡ row .count

@@ -5,28 +5,28 @@ use native.Mathlib.Omega.{arith}
 use mathlib.Core.Path.{_≡_}
 use mathlib.Core.Bool.{Bool, false, _&&_}
 use mathlib.Core.List.{List}
-use lib.Dec.{eqb, ltb}
+use lib.Dec.{eqb}
 use lib.ListN.{length, getD, take, drop, length-take, length-drop}
 use lib.Seq.{ext-getD, getD-take, getD-drop}
 use borrow.Author.Tests.{lt-ltb, le-ltb}
 use Rattle.bits.specs.Width.{fits, under}
-use Rattle.model.specs.Lists.{if_then_else_, word, every}
+use Rattle.model.specs.Lists.{word, every}
 use Rattle.model.specs.Blocks.{F, N, A, T, fieldPlace, nodePlace, width, widths, Call, pipelineNode, callAt, parameterCount, parameterWidth, keyCount, key, tableOf, value, mask, callPlace}
 use Rattle.model.specs.Nodes.{sortOf}
-use Rattle.model.specs.Refusals.{pipelineSorts, callWell, pairWell, ruleWell}
+use Rattle.model.specs.Refusals.{pipelineSorts, wellOrZero, callWell, pairWell, ruleWell, fieldRow, nodeRow, tableRow}
 use Rattle.model.specs.declared.Stage.{Stage}
 use Rattle.model.proofs.SortTests.{width-true}
 use Rattle.model.proofs.SortWidths.{all-narrow}
-use Rattle.model.proofs.Accepted.{all-widths}
+use Rattle.model.proofs.Accepted.{all-widths, table-keys}
 use Rattle.model.proofs.Lists.{length-build, length-each, each-at}
 use Rattle.blocks.specs.Whole.{Whole}
 use Rattle.nodes.specs.Codes.{Coded, sortsFrom, firstMalformed}
-use Rattle.checker.specs.Passed.{Narrow, Keyed, firstIn, nodeRow}
+use Rattle.checker.specs.Rows.{Passes, firstIn}
 
 -- what three words say, by whether their action is there
 module _ (p : List ℕ) (k : Call) (action : ℕ) (e : action ≡ k .action) where
   abbrev datumWell : ℕ → Bool
-  datumWell j = if ltb j (parameterCount p action) then fits (parameterWidth p action j) (word (k .«data») j) else eqb (word (k .«data») j) 0
+  datumWell j = wellOrZero (parameterCount p action) j (fits (parameterWidth p action j) (word (k .«data») j)) (word (k .«data») j)
 
   pub call-there : (b : Bool) → action < A p → b ≡ datumWell 0 && datumWell 1 → b ≡ callWell p k
   unfolding callWell every
@@ -37,10 +37,10 @@ module _ (p : List ℕ) (k : Call) (action : ℕ) (e : action ≡ k .action) whe
   call-nowhere h = rw (← e, le-ltb action (A p) h)
 
 -- a used key is a field, and a field's width is narrow
-pub key-there : (p : List ℕ) (t j f : ℕ) → Keyed p → t < T p → j < keyCount p t → f ≡ key p t j → f < F p
-key-there p t j f h k l e = rw e (h .at t j k l)
+pub key-there : (p : List ℕ) (t j f : ℕ) → Passes (tableRow p) → t < T p → j < keyCount p t → f ≡ key p t j → f < F p
+key-there p t j f h k l e = rw e (table-keys p t (h .at t k) .1 j l)
 
-pub narrow-there : (p : List ℕ) (f w : ℕ) → Narrow p → f < F p → w ≡ width p f → w ≤ 32
+pub narrow-there : (p : List ℕ) (f w : ℕ) → Passes (fieldRow p) → f < F p → w ≡ width p f → w ≤ 32
 narrow-there p f w h k e = rw e (width-true (width p f) (h .at f k) .1)
 
 -- what a rule says, by whether its table is there
@@ -90,7 +90,7 @@ sorts-there p ws from h e d =
     rw (d, fields, widths-there p h, place)
 
 -- 3 lets all of them, and what stands past the last, be narrow
-pub narrow-words : (p ws : List ℕ) (from : ℕ) → Whole p → Narrow p → from ≡ nodePlace p 0 → ws ≡ take (from - 5) (drop 5 p) → (x : ℕ) → word ws x ≤ 32
+pub narrow-words : (p ws : List ℕ) (from : ℕ) → Whole p → Passes (fieldRow p) → from ≡ nodePlace p 0 → ws ≡ take (from - 5) (drop 5 p) → (x : ℕ) → word ws x ≤ 32
 narrow-words p ws from h k e d x =
     let fields : from - 5 ≡ F p = omega arith in
     rw (d, fields, widths-there p h) (all-narrow (widths p) (all-widths p (k .at)) x)
@@ -98,7 +98,7 @@ narrow-words p ws from h k e d x =
 -- the first malformed node is the place that 4 gives
 pub nodes-found : (p ws codes : List ℕ) (from count tables x : ℕ) → Whole p → from ≡ nodePlace p 0 → ws ≡ take (from - 5) (drop 5 p)
     → count ≡ N p → tables ≡ T p → x ≡ firstMalformed Stage.Pipeline p from count ws tables → Coded codes (sortsFrom Stage.Pipeline p from count ws tables) x
-    → (x ≡ firstIn (nodeRow p)) × Coded codes (pipelineSorts p) x
+    → (x ≡ firstIn (nodeRow p (pipelineSorts p))) × Coded codes (pipelineSorts p) x
 nodes-found p ws codes from count tables x h e d n t first coded =
     let same = sorts-there p ws from h e d in
     (rw (n, t, same) at first, rw (n, t, same) at coded)

@@ -7,18 +7,18 @@ ghost use mathlib.Core.Path.{_≡_};
 ghost use mathlib.Core.Bool.{_&&_};
 ghost use mathlib.Core.List.{[]};
 ghost use Prim.Native.Nat.{_+_, _*_, _≤_, _<_, _^_};
-ghost use lib.Dec.{eqb, ltb, leb};
+ghost use lib.Dec.{ltb, leb};
 ghost use lib.ListN.{length};
 ghost use Rattle.bits.specs.Width.{fits};
-ghost use Rattle.model.specs.Lists.{if_then_else_, within, every, word};
+ghost use Rattle.model.specs.Lists.{within, every, word};
 ghost use Rattle.model.specs.Blocks.{F, N, A as actions, T, R, pipelineLength, width, callAt, parameterCount, parameterWidth, keyCount, key, tableOf};
 ghost use Rattle.model.specs.Nodes.{isWidth, isStatement};
 ghost use Rattle.model.specs.Answers.{told, checked};
-ghost use Rattle.model.specs.Refusals.{judge, countsWell, pipelineSorts, sortAt, usedOrZero, actionWell, callWell, tableWell, pairWell, ruleWell};
+ghost use Rattle.model.specs.Refusals.{judge, countsWell, pipelineSorts, sortAt, wellOrZero, usedOrZero, actionWell, callWell, tableWell, pairWell, ruleWell, fieldRow, nodeRow, actionRow, tableRow, ruleRow};
 ghost use Rattle.model.specs.Calls.{Checks};
 ghost use Rattle.blocks.specs.Whole.{Whole};
 ghost use Rattle.nodes.specs.Codes.{Coded};
-ghost use Rattle.checker.specs.Passed.{Counted, Narrow, Formed, Acting, Fitted, Keyed, firstIn, widthRow, nodeRow, actionRow, tableRow, ruleRow, treeRows, sortedRows, pipelineRows, ruleRows};
+ghost use Rattle.checker.specs.Rows.{Sized, Passes, firstIn, treeRows, sortedRows, pipelineRows, ruleRows};
 
 fn within(low: u32, high: u32, n: u32) -> bool
     ensures { λ r. ⌜ r ≡ within low high n ⌝ }
@@ -69,7 +69,7 @@ fn counts_well(p: &[u32], r: &[u32]) -> bool
 
 fn first_width(p: &[u32]) -> usize
     requires { ⌜ Whole (now p) ⌝ }
-    ensures { λ r. ⌜ r ≡ firstIn (widthRow (now (p .entry))) ⌝ }
+    ensures { λ r. ⌜ r ≡ firstIn (fieldRow (now (p .entry))) ⌝ }
 {
     let count = blocks::field_count(p);
     let mut i = 0;
@@ -84,9 +84,9 @@ fn first_width(p: &[u32]) -> usize
 }
 
 fn first_node(p: &[u32], codes: &mut [u8; 1024]) -> usize
-    requires { ⌜ Counted (now p) ⌝ }
-    requires { ⌜ Narrow (now p) ⌝ }
-    ensures { λ r. ⌜ r ≡ firstIn (nodeRow (now (p .entry))) ⌝ }
+    requires { ⌜ Sized (now p) ⌝ }
+    requires { ⌜ Passes (fieldRow (now p)) ⌝ }
+    ensures { λ r. ⌜ r ≡ firstIn (nodeRow (now (p .entry)) (pipelineSorts (now (p .entry)))) ⌝ }
     ensures { λ r. ⌜ Coded (now (codes .exit)) (pipelineSorts (now (p .entry))) r ⌝ }
 {
     let from = blocks::node_place(p, 0);
@@ -104,7 +104,7 @@ fn first_node(p: &[u32], codes: &mut [u8; 1024]) -> usize
 
 // Whether node x is a statement.
 fn statement_at(p: &[u32], codes: &[u8; 1024], x: u32) -> bool
-    requires { ⌜ Counted (now p) ⌝ }
+    requires { ⌜ Sized (now p) ⌝ }
     requires { ⌜ Coded (now codes) (pipelineSorts (now p)) (N (now p)) ⌝ }
     ensures { λ r. ⌜ r ≡ isStatement (sortAt (pipelineSorts (now (p .entry))) x) ⌝ }
 {
@@ -113,7 +113,7 @@ fn statement_at(p: &[u32], codes: &[u8; 1024], x: u32) -> bool
 
 // A number that is used keeps its rule, and another is 0.
 fn used_or_zero(j: u32, used: u32, well: bool, number: u32) -> bool
-    ensures { λ r. ⌜ r ≡ (if ltb j used then well else eqb number 0) ⌝ }
+    ensures { λ r. ⌜ r ≡ wellOrZero used j well number ⌝ }
 {
     if j < used { well } else { number == 0 }
 }
@@ -122,7 +122,7 @@ fn parameter_well(p: &[u32], i: usize, j: u32) -> bool
     requires { ⌜ Whole (now p) ⌝ }
     requires { ⌜ i < actions (now p) ⌝ }
     requires { ⌜ j < 2 ⌝ }
-    ensures { λ r. ⌜ r ≡ (if ltb j (parameterCount (now (p .entry)) i) then isWidth (parameterWidth (now (p .entry)) i j) else eqb (parameterWidth (now (p .entry)) i j) 0) ⌝ }
+    ensures { λ r. ⌜ r ≡ wellOrZero (parameterCount (now (p .entry)) i) j (isWidth (parameterWidth (now (p .entry)) i j)) (parameterWidth (now (p .entry)) i j) ⌝ }
 {
     let width = blocks::parameter_width(p, i, blocks::wide(j));
     used_or_zero(
@@ -134,7 +134,7 @@ fn parameter_well(p: &[u32], i: usize, j: u32) -> bool
 }
 
 fn action_well(p: &[u32], codes: &[u8; 1024], i: usize) -> bool
-    requires { ⌜ Counted (now p) ⌝ }
+    requires { ⌜ Sized (now p) ⌝ }
     requires { ⌜ Coded (now codes) (pipelineSorts (now p)) (N (now p)) ⌝ }
     requires { ⌜ i < actions (now p) ⌝ }
     ensures { λ r. ⌜ r ≡ actionWell (now (p .entry)) (pipelineSorts (now (p .entry))) i ⌝ }
@@ -148,9 +148,9 @@ fn action_well(p: &[u32], codes: &[u8; 1024], i: usize) -> bool
 }
 
 fn first_action(p: &[u32], codes: &[u8; 1024]) -> usize
-    requires { ⌜ Counted (now p) ⌝ }
+    requires { ⌜ Sized (now p) ⌝ }
     requires { ⌜ Coded (now codes) (pipelineSorts (now p)) (N (now p)) ⌝ }
-    ensures { λ r. ⌜ r ≡ firstIn (actionRow (now (p .entry))) ⌝ }
+    ensures { λ r. ⌜ r ≡ firstIn (actionRow (now (p .entry)) (pipelineSorts (now (p .entry)))) ⌝ }
 {
     let count = blocks::action_count(p);
     let mut i = 0;
@@ -166,10 +166,10 @@ fn first_action(p: &[u32], codes: &[u8; 1024]) -> usize
 
 fn datum_well(p: &[u32], action: usize, j: u32, x: u32) -> bool
     requires { ⌜ Whole (now p) ⌝ }
-    requires { ⌜ Fitted (now p) ⌝ }
+    requires { ⌜ Passes (actionRow (now p) (pipelineSorts (now p))) ⌝ }
     requires { ⌜ action < actions (now p) ⌝ }
     requires { ⌜ j < 2 ⌝ }
-    ensures { λ r. ⌜ r ≡ (if ltb j (parameterCount (now (p .entry)) action) then fits (parameterWidth (now (p .entry)) action j) x else eqb x 0) ⌝ }
+    ensures { λ r. ⌜ r ≡ wellOrZero (parameterCount (now (p .entry)) action) j (fits (parameterWidth (now (p .entry)) action j) x) x ⌝ }
 {
     let width = blocks::parameter_width(p, action, blocks::wide(j));
     used_or_zero(
@@ -183,7 +183,7 @@ fn datum_well(p: &[u32], action: usize, j: u32, x: u32) -> bool
 // The three words at a place are an action and data that fit it.
 fn call_well(p: &[u32], ws: &[u32], at: usize) -> bool
     requires { ⌜ Whole (now p) ⌝ }
-    requires { ⌜ Fitted (now p) ⌝ }
+    requires { ⌜ Passes (actionRow (now p) (pipelineSorts (now p))) ⌝ }
     requires { ⌜ at + 3 ≤ length (now ws) ⌝ }
     ensures { λ r. ⌜ r ≡ callWell (now (p .entry)) (callAt (now (ws .entry)) at) ⌝ }
 {
@@ -202,7 +202,7 @@ fn key_well(p: &[u32], i: usize, j: u32) -> bool
     requires { ⌜ Whole (now p) ⌝ }
     requires { ⌜ i < T (now p) ⌝ }
     requires { ⌜ j < 4 ⌝ }
-    ensures { λ r. ⌜ r ≡ (if ltb j (keyCount (now (p .entry)) i) then ltb (key (now (p .entry)) i j) (F (now (p .entry))) else eqb (key (now (p .entry)) i j) 0) ⌝ }
+    ensures { λ r. ⌜ r ≡ wellOrZero (keyCount (now (p .entry)) i) j (ltb (key (now (p .entry)) i j) (F (now (p .entry)))) (key (now (p .entry)) i j) ⌝ }
 {
     let key = blocks::key(p, i, blocks::wide(j));
     used_or_zero(
@@ -229,7 +229,7 @@ fn keys_well(p: &[u32], i: usize) -> bool
 
 fn table_well(p: &[u32], i: usize) -> bool
     requires { ⌜ Whole (now p) ⌝ }
-    requires { ⌜ Fitted (now p) ⌝ }
+    requires { ⌜ Passes (actionRow (now p) (pipelineSorts (now p))) ⌝ }
     requires { ⌜ i < T (now p) ⌝ }
     ensures { λ r. ⌜ r ≡ tableWell (now (p .entry)) i ⌝ }
 {
@@ -242,7 +242,7 @@ fn table_well(p: &[u32], i: usize) -> bool
 
 fn first_table(p: &[u32]) -> usize
     requires { ⌜ Whole (now p) ⌝ }
-    requires { ⌜ Fitted (now p) ⌝ }
+    requires { ⌜ Passes (actionRow (now p) (pipelineSorts (now p))) ⌝ }
     ensures { λ r. ⌜ r ≡ firstIn (tableRow (now (p .entry))) ⌝ }
 {
     let count = blocks::table_count(p);
@@ -260,8 +260,8 @@ fn first_table(p: &[u32]) -> usize
 // Pair j of rule i, whose table is t.
 fn pair_well(p: &[u32], r: &[u32], i: usize, t: usize, j: u32) -> bool
     requires { ⌜ Whole (now p) ⌝ }
-    requires { ⌜ Narrow (now p) ⌝ }
-    requires { ⌜ Keyed (now p) ⌝ }
+    requires { ⌜ Passes (fieldRow (now p)) ⌝ }
+    requires { ⌜ Passes (tableRow (now p)) ⌝ }
     requires { ⌜ i < R (now r) ⌝ }
     requires { ⌜ t ≡ tableOf (now r) i ⌝ }
     requires { ⌜ t < T (now p) ⌝ }
@@ -281,8 +281,8 @@ fn pair_well(p: &[u32], r: &[u32], i: usize, t: usize, j: u32) -> bool
 
 fn pairs_well(p: &[u32], r: &[u32], i: usize, t: usize) -> bool
     requires { ⌜ Whole (now p) ⌝ }
-    requires { ⌜ Narrow (now p) ⌝ }
-    requires { ⌜ Keyed (now p) ⌝ }
+    requires { ⌜ Passes (fieldRow (now p)) ⌝ }
+    requires { ⌜ Passes (tableRow (now p)) ⌝ }
     requires { ⌜ i < R (now r) ⌝ }
     requires { ⌜ t ≡ tableOf (now r) i ⌝ }
     requires { ⌜ t < T (now p) ⌝ }
@@ -299,9 +299,9 @@ fn pairs_well(p: &[u32], r: &[u32], i: usize, t: usize) -> bool
 
 fn rule_well(p: &[u32], r: &[u32], i: usize) -> bool
     requires { ⌜ Whole (now p) ⌝ }
-    requires { ⌜ Narrow (now p) ⌝ }
-    requires { ⌜ Fitted (now p) ⌝ }
-    requires { ⌜ Keyed (now p) ⌝ }
+    requires { ⌜ Passes (fieldRow (now p)) ⌝ }
+    requires { ⌜ Passes (actionRow (now p) (pipelineSorts (now p))) ⌝ }
+    requires { ⌜ Passes (tableRow (now p)) ⌝ }
     requires { ⌜ i < R (now r) ⌝ }
     ensures { λ b. ⌜ b ≡ ruleWell (now (p .entry)) (now (r .entry)) i ⌝ }
 {
@@ -318,9 +318,9 @@ fn rule_well(p: &[u32], r: &[u32], i: usize) -> bool
 
 fn first_rule(p: &[u32], r: &[u32]) -> usize
     requires { ⌜ Whole (now p) ⌝ }
-    requires { ⌜ Narrow (now p) ⌝ }
-    requires { ⌜ Fitted (now p) ⌝ }
-    requires { ⌜ Keyed (now p) ⌝ }
+    requires { ⌜ Passes (fieldRow (now p)) ⌝ }
+    requires { ⌜ Passes (actionRow (now p) (pipelineSorts (now p))) ⌝ }
+    requires { ⌜ Passes (tableRow (now p)) ⌝ }
     ensures { λ b. ⌜ b ≡ firstIn (ruleRow (now (p .entry)) (now (r .entry))) ⌝ }
 {
     let count = blocks::rule_count(r);
@@ -337,10 +337,10 @@ fn first_rule(p: &[u32], r: &[u32]) -> usize
 
 // 7 to 9: the root is a statement, each node has one place, and parameters and applies have theirs.
 fn check_trees(p: &[u32], codes: &[u8; 1024]) -> Checked
-    requires { ⌜ Counted (now p) ⌝ }
+    requires { ⌜ Sized (now p) ⌝ }
     requires { ⌜ Coded (now codes) (pipelineSorts (now p)) (N (now p)) ⌝ }
-    requires { ⌜ Formed (now p) ⌝ }
-    requires { ⌜ Acting (now p) ⌝ }
+    requires { ⌜ Passes (nodeRow (now p) (pipelineSorts (now p))) ⌝ }
+    requires { ⌜ Passes (actionRow (now p) (pipelineSorts (now p))) ⌝ }
     ensures { λ a. ⌜ checked a ≡ told (λ _. []) (judge (treeRows (now (p .entry)))) ⌝ }
 {
     if !statement_at(p, codes, blocks::root(p)) {
@@ -359,9 +359,9 @@ fn check_trees(p: &[u32], codes: &[u8; 1024]) -> Checked
 
 // 5 to 9, where the sorts of the nodes are known.
 fn check_sorted(p: &[u32], codes: &[u8; 1024]) -> Checked
-    requires { ⌜ Counted (now p) ⌝ }
+    requires { ⌜ Sized (now p) ⌝ }
     requires { ⌜ Coded (now codes) (pipelineSorts (now p)) (N (now p)) ⌝ }
-    requires { ⌜ Formed (now p) ⌝ }
+    requires { ⌜ Passes (nodeRow (now p) (pipelineSorts (now p))) ⌝ }
     ensures { λ a. ⌜ checked a ≡ told (λ _. []) (judge (sortedRows (now (p .entry)))) ⌝ }
 {
     let i = first_action(p, codes);
@@ -377,7 +377,7 @@ fn check_sorted(p: &[u32], codes: &[u8; 1024]) -> Checked
 
 // 3 to 9: what the pipeline block says by itself.
 fn check_pipeline(p: &[u32]) -> Checked
-    requires { ⌜ Counted (now p) ⌝ }
+    requires { ⌜ Sized (now p) ⌝ }
     ensures { λ a. ⌜ checked a ≡ told (λ _. []) (judge (pipelineRows (now (p .entry)))) ⌝ }
 {
     let i = first_width(p);
@@ -395,9 +395,9 @@ fn check_pipeline(p: &[u32]) -> Checked
 // 10, where the pipeline is accepted.
 fn check_rules(p: &[u32], r: &[u32]) -> Checked
     requires { ⌜ Whole (now p) ⌝ }
-    requires { ⌜ Narrow (now p) ⌝ }
-    requires { ⌜ Fitted (now p) ⌝ }
-    requires { ⌜ Keyed (now p) ⌝ }
+    requires { ⌜ Passes (fieldRow (now p)) ⌝ }
+    requires { ⌜ Passes (actionRow (now p) (pipelineSorts (now p))) ⌝ }
+    requires { ⌜ Passes (tableRow (now p)) ⌝ }
     ensures { λ a. ⌜ checked a ≡ told (λ _. []) (judge (ruleRows (now (p .entry)) (now (r .entry)))) ⌝ }
 {
     let i = first_rule(p, r);

@@ -3,7 +3,7 @@ use Prim.Native.Nat.{ℕ, zero, suc, _%_, _^_, _<_, _≤_}
 use native.Mathlib.Nat.{le-refl}
 use native.Mathlib.Omega.{arith}
 use mathlib.Core.Path.{_≡_, refl, sym, _∙_}
-use mathlib.Core.Bool.{Bool, true, _&&_, false≢true}
+use mathlib.Core.Bool.{Bool, true, false, _&&_, false≢true}
 use mathlib.Core.List.{List}
 use lib.Dec.{eqb, ltb, leb}
 use lib.ListN.{getD, length}
@@ -18,7 +18,7 @@ use Rattle.model.specs.Trees.{noData, program, called}
 use Rattle.model.specs.Good.{widthOfValue, GoodValue, GoodTest, Good}
 use Rattle.model.specs.Tables.{triedBefore, tried, callOf}
 use Rattle.model.specs.Passive.{keyTest, keyTests, matching}
-use Rattle.model.specs.Refusals.{countsWell, pipelineSorts, sortAt, usedOrZero, actionWell, callWell, tableWell, uses, underEach, standsUnder, placedWell, pairWell, ruleWell, checkRows}
+use Rattle.model.specs.Refusals.{countsWell, pipelineSorts, sortAt, wellOrZero, usedOrZero, actionWell, callWell, tableWell, uses, underEach, standsUnder, placedWell, pairWell, ruleWell, checkRows}
 use Rattle.model.specs.Calls.{check}
 use Rattle.model.specs.Demands.{Clear, Accepted}
 use Rattle.model.specs.declared.Group.{Group}
@@ -169,6 +169,21 @@ module _ (p : List ℕ) where
       let most = leb-true (keyCount p t) 4 (b .0) in
       (most, λ j l. ltb-true (key p t j) (F p) (used-at 4 (keyCount p t) well (key p t) j (b .1) (omega arith) l), a .1)
 
+  -- a parameter's width, used or not
+  pub parameter-narrow : (k j : ℕ) → actionWell p (pipelineSorts p) k ≡ true → j < 2 → parameterWidth p k j ≤ 32
+  unfolding actionWell
+  parameter-narrow k j e h = go (ltb j (parameterCount p k)) (every-at test 2 j (both-true first (every test 2) e .1) h)
+    where
+      test : ℕ → Bool
+      test j = wellOrZero (parameterCount p k) j (isWidth (parameterWidth p k j)) (parameterWidth p k j)
+
+      first : Bool
+      first = isStatement (sortAt (pipelineSorts p) (body p k)) && leb (parameterCount p k) 2
+
+      go : (b : Bool) → (if b then isWidth (parameterWidth p k j) else eqb (parameterWidth p k j) 0) ≡ true → parameterWidth p k j ≤ 32
+      go true w = width-true (parameterWidth p k j) w .1
+      go false w = omega (arith, eqb-true (parameterWidth p k j) 0 w)
+
   -- a statement's number is a node's
   pub statement-below : (i : ℕ) → isStatement (sortAt (pipelineSorts p) i) ≡ true → i < N p
   unfolding pipelineSorts
@@ -267,6 +282,7 @@ pub record WellFormed (p r : List ℕ) : Type 0 where
   pub widthsLength : length (widths p) ≡ F p
   pub widthsGood : AllWidths (widths p)
   pub rootBelow : root p < N p
+  pub bodyBelow : (k : ℕ) → k < A p → body p k < N p
   pub programGood : Good (widths p) (T p) (program p)
   pub defaultGood : (t : ℕ) → t < T p → Good (widths p) 0 (called p (callOf p r t Hit.Default))
   pub ruleGood : (i : ℕ) → i < R r → (t : ℕ) → Good (widths p) 0 (called p (callOf p r t (Hit.Rule i)))
@@ -280,6 +296,7 @@ accepted-good p r e =
       widthsLength = length-each (width p) (F p);
       widthsGood = all-widths p (h .three);
       rootBelow = statement-below p (root p) (h .seven);
+      bodyBelow = λ k l. statement-below p (body p k) (action-fits p k (h .five k l) .0);
       programGood = program-good p r h;
       defaultGood = λ t k. call-good p r h (callAt p (defaultPlace p t)) (table-fits p r h t k .2);
       ruleGood = λ i k t. call-good p r h (callAt r (callPlace r i)) (rule-fits p r h i k .2);

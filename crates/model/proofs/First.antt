@@ -1,11 +1,15 @@
--- How a loop finds the first place of which a test does not hold, and what the place that it found says. Assumes nothing.
+-- How a loop finds the first place of which a test does not hold, what the place that it found says, and what a call's rows then answer.
+-- Assumes nothing.
 use Prim.Native.Nat.{ℕ, _+_, _<_, _≤_}
 use native.Mathlib.Numerals.{add-one}
 use native.Mathlib.Omega.{arith}
 use mathlib.Core.Path.{_≡_, refl}
 use mathlib.Core.Bool.{Bool, true, false}
+use mathlib.Core.List.{List, [], _∷_, _++_}
 use mathlib.Core.Option.{Option, none, some}
-use Rattle.model.specs.Lists.{firstNot, orCount}
+use Rattle.model.specs.Lists.{firstNot, orCount, firstPlace}
+use Rattle.model.specs.Answers.{refused, after}
+use Rattle.model.specs.Refusals.{Row, once, given, judge}
 use Rattle.model.proofs.Refusals.{Found, found, not-before}
 
 module _ (test : ℕ → Bool) where
@@ -52,3 +56,36 @@ module _ (test : ℕ → Bool) where
     where
       all : Found test n none
       all = rw e at (found test n)
+
+-- ---- a call's rows, one after the other
+
+-- a row refuses at the place that was found, or lets the next one judge
+module _ (row : Row) (rows : List Row) (x n : ℕ) (e : x ≡ firstPlace (row .well) (row .count)) (k : n ≡ row .count) where
+  pub judge-stop : x < n → judge (row ∷ rows) ≡ refused (row .number) (row .place x)
+  unfolding judge
+  judge-stop h = rw (first-at (row .well) (row .count) x e (rw (← k) h))
+
+  pub judge-on : n ≤ x → judge (row ∷ rows) ≡ judge rows
+  unfolding judge
+  judge-on h = rw (first-past (row .well) (row .count) x e (rw (← k) h))
+
+-- the same of a row that looks once
+module _ (number : ℕ) (rows : List Row) (b u : Bool) (e : u ≡ b) where
+  pub once-stop : u ≡ false → judge (once number (λ _. b) (λ _. 0) ∷ rows) ≡ refused number 0
+  unfolding judge firstNot
+  once-stop q = rw (← e, q)
+
+  pub once-on : u ≡ true → judge (once number (λ _. b) (λ _. 0) ∷ rows) ≡ judge rows
+  unfolding judge firstNot
+  once-on q = rw (← e, q)
+
+-- rows that are followed by others judge first
+pub judge-append : (rows more : List Row) → judge (rows ++ more) ≡ after (judge rows) (λ _. judge more)
+unfolding judge
+judge-append [] more = refl
+judge-append (row ∷ rows) more = go (firstNot (row .well) (row .count)) (judge-append rows more)
+  where
+    go : (o : Option ℕ) → judge (rows ++ more) ≡ after (judge rows) (λ _. judge more)
+        → given row o (judge (rows ++ more)) ≡ after (given row o (judge rows)) (λ _. judge more)
+    go none e = e
+    go (some i) e = refl

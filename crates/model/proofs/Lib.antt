@@ -23,6 +23,7 @@ pub mod Uses
 pub mod Hits
 pub mod CallRefusals
 pub mod Answers
+pub mod Passing
 -- widths
 pub mod Renaming
 pub mod Fits

@@ -11,12 +11,14 @@ use Rattle.model.specs.Lists.{if_then_else_, build, joined, each, times,
 use Rattle.model.specs.Blocks.{N, A, T, root, widths, pipelineNode, body}
 use Rattle.model.specs.Nodes.{isFormed, children, sortOf}
 use Rattle.model.specs.Refusals.{pipelineSorts, sortAt, uses, gathered, underEach}
+use Rattle.model.specs.Demands.{Accepted}
 use Rattle.model.specs.declared.Sort.{Sort}
 use Rattle.model.specs.declared.Stage.{Stage}
 use Rattle.model.proofs.Lists.{made, build-at, each-joined}
 use Rattle.model.proofs.Every.{among-here, among-there, build-before}
 use Rattle.model.proofs.Times.{times-append, times-same, times-joined, joined-once, among-left, among-right, all-among}
 use Rattle.model.proofs.Children.{formed-children}
+use Rattle.model.proofs.Accepted.{rows}
 use Rattle.model.proofs.Decoded.{underStep, nodesUnder, under-at, under-all}
 
 -- ---- the ways of being used
@@ -106,3 +108,7 @@ module _ (p : List ℕ) where
         let closed : ℕ → ℕ → Type 0 = λ i j. (x : ℕ) → among x (childrenOf p j) ≡ true → among x (nodesUnder p i) ≡ true in
         let own : (i : ℕ) → i < N p → closed i i = λ i h x k. let l = children-below i x h k in under-through i x x h l k (under-self x (omega arith)) in
         all-among j (closed i) (nodesUnder p i) (under-all p closed own (λ i c j h l k f x n. under-through i c x h l k (f x n)) i) m x k
+
+-- in an accepted block children stand before their parents
+pub accepted-children : (p r : List ℕ) → Accepted p r → (i x : ℕ) → i < N p → among x (childrenOf p i) ≡ true → x < i
+accepted-children p r e = children-below p (rows p r e .four)

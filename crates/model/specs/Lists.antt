@@ -54,6 +54,9 @@ abbrev pub orCount : ℕ → Option ℕ → ℕ
 orCount n none = n
 orCount n (some i) = i
 
+abbrev pub firstPlace : (ℕ → Bool) → ℕ → ℕ
+firstPlace test n = orCount n (firstNot test n)
+
 -- those of the list of which the test holds
 unfoldable pub those : (ℕ → Bool) → List ℕ → List ℕ
 those test [] = []

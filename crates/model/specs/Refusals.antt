@@ -62,8 +62,11 @@ abbrev pub sortAt : List Sort → ℕ → Sort
 sortAt ss i = getD ss i Sort.Malformed
 
 -- those of `most` that are used keep their rule, and the others are 0
+abbrev pub wellOrZero : ℕ → ℕ → Bool → ℕ → Bool
+wellOrZero used j well number = if ltb j used then well else eqb number 0
+
 abbrev pub usedOrZero : ℕ → ℕ → (ℕ → Bool) → (ℕ → ℕ) → Bool
-usedOrZero most used well number = every (λ j. if ltb j used then well j else eqb (number j) 0) most
+usedOrZero most used well number = every (λ j. wellOrZero used j (well j) (number j)) most
 
 -- 5
 unfoldable pub actionWell : List ℕ → List Sort → ℕ → Bool
@@ -119,20 +122,38 @@ pairWell p r i j =
 unfoldable pub ruleWell : List ℕ → List ℕ → ℕ → Bool
 ruleWell p r i = ltb (tableOf r i) (T p) && every (pairWell p r i) 4 && callWell p (callAt r (callPlace r i))
 
+-- The rows, over the sorts, the uses and the nodes under each node, which are computed once for all of them.
+abbrev pub fieldRow : List ℕ → Row
+fieldRow p = eachOf 3 (F p) (λ i. isWidth (width p i))
+
+abbrev pub nodeRow : List ℕ → List Sort → Row
+nodeRow p ss = eachOf 4 (N p) (λ i. isFormed (sortAt ss i))
+
+abbrev pub actionRow : List ℕ → List Sort → Row
+actionRow p ss = eachOf 5 (A p) (actionWell p ss)
+
+abbrev pub tableRow : List ℕ → Row
+tableRow p = eachOf 6 (T p) (tableWell p)
+
+abbrev pub rootRow : List ℕ → List Sort → Row
+rootRow p ss = once 7 (λ _. isStatement (sortAt ss (root p))) (λ _. 0)
+
+abbrev pub useRow : List ℕ → List ℕ → Row
+useRow p all = eachOf 8 (N p) (λ i. eqb (times i all) 1)
+
+abbrev pub placeRow : List ℕ → List (List ℕ) → Row
+placeRow p us = eachOf 9 (N p) (placedWell p us)
+
+abbrev pub ruleRow : List ℕ → List ℕ → Row
+ruleRow p r = eachOf 10 (R r) (ruleWell p r)
+
 unfoldable pub checkRows : List ℕ → List ℕ → List Row
 checkRows p r =
     let ss = pipelineSorts p in
     let us = underEach p in
     let all = uses p in
     once 2 (λ _. countsWell p r) (λ _. 0)
-    ∷ eachOf 3 (F p) (λ i. isWidth (width p i))
-    ∷ eachOf 4 (N p) (λ i. isFormed (sortAt ss i))
-    ∷ eachOf 5 (A p) (actionWell p ss)
-    ∷ eachOf 6 (T p) (tableWell p)
-    ∷ once 7 (λ _. isStatement (sortAt ss (root p))) (λ _. 0)
-    ∷ eachOf 8 (N p) (λ i. eqb (times i all) 1)
-    ∷ eachOf 9 (N p) (placedWell p us)
-    ∷ eachOf 10 (R r) (ruleWell p r)
+    ∷ fieldRow p ∷ nodeRow p ss ∷ actionRow p ss ∷ tableRow p ∷ rootRow p ss ∷ useRow p all ∷ placeRow p us ∷ ruleRow p r
     ∷ []
 
 -- 11: the packet's length, else its values

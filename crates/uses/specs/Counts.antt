@@ -4,7 +4,7 @@ use mathlib.Core.Path.{_≡_}
 use mathlib.Core.List.{List, _++_}
 use lib.Dec.{eqb, ltb}
 use lib.ListN.{length}
-use Rattle.model.specs.Lists.{if_then_else_, word, firstNot, orCount, times}
+use Rattle.model.specs.Lists.{if_then_else_, word, firstPlace, times}
 use Rattle.model.specs.Blocks.{N}
 use Rattle.model.specs.Refusals.{uses}
 
@@ -23,7 +23,7 @@ pub record Adds (ys before after : List ℕ) : Type 0 where
 
 -- the first of n numbers that doesn't stand exactly once in a list
 abbrev pub firstNotOnce : List ℕ → ℕ → ℕ
-firstNotOnce xs n = orCount n (firstNot (λ i. eqb (times i xs) 1) n)
+firstNotOnce xs n = firstPlace (λ i. eqb (times i xs) 1) n
 
 -- 8: the first node that is not used exactly once, or N
 abbrev pub firstMiscounted : List ℕ → ℕ

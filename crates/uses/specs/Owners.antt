@@ -5,7 +5,7 @@ use mathlib.Core.Bool.{Bool, true, _&&_}
 use mathlib.Core.List.{List}
 use lib.Dec.{eqb, ltb}
 use lib.ListN.{length}
-use Rattle.model.specs.Lists.{if_then_else_, word, firstNot, orCount, times, among}
+use Rattle.model.specs.Lists.{if_then_else_, word, firstPlace, times, among}
 use Rattle.model.specs.Blocks.{N, A, body, parameterCount, parameterWidth, pipelineNode}
 use Rattle.model.specs.Nodes.{isFormed, isStatement, children}
 use Rattle.model.specs.Refusals.{pipelineSorts, sortAt, uses, underEach, standsUnder, placedWell}
@@ -36,4 +36,4 @@ hasParameter p owner a b = ltb 0 owner && (ltb a (parameterCount p (owner - 1)) 
 
 -- 9: the first parameter or apply in the wrong place, or N
 abbrev pub firstMisplaced : List ℕ → ℕ
-firstMisplaced p = orCount (N p) (firstNot (placedWell p (underEach p)) (N p))
+firstMisplaced p = firstPlace (placedWell p (underEach p)) (N p)

@@ -17,5 +17,5 @@ call-well-spec = tie.close (tie.spec
     (λ c κs. search needs)  -- word-requires-3
     (λ c κs. (search needs, (search needs, (omega arith, omega arith))))  -- datum-well-requires-2
     (λ c κs. search needs)  -- both-requires
-    (λ c. call-there _ _ (c .before .before .before .before .before .before .before .wide .result) (cc) _ (omega arith) (rw (c .both .ensures, c .before .before .before .datum-well .ensures, c .before .datum-well2 .ensures, c .before .before .before .before .word2 .ensures, c .before .before .word3 .ensures)))  -- returns
+    (λ c. call-there _ _ (c .before .before .before .before .before .before .before .wide .result) (cc) _ (omega arith) (cc))  -- returns
     (λ c. call-nowhere _ _ (c .before .before .wide .result) (cc) (omega arith)))  -- returns-2

@@ -1,6 +1,6 @@
 -- `checker::check_pipeline` meets its contract. Assumes nothing.
 use borrow.Author.Needs.{needs}
-use Rattle.checker.specs.Passed.{pipelineRows}
+use Rattle.checker.specs.Rows.{pipelineRows}
 use Rattle.checker.proofs.Judged.{judged, passed}
 use Rattle.checker.proofs.check_pipeline.Statement.{statement}
 use Rattle.checker.proofs.check_pipeline.Tie as tie

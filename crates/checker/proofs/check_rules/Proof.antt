@@ -1,6 +1,6 @@
 -- `checker::check_rules` meets its contract. Assumes nothing.
 use borrow.Author.Needs.{needs}
-use Rattle.checker.specs.Passed.{ruleRows}
+use Rattle.checker.specs.Rows.{ruleRows}
 use Rattle.checker.proofs.Judged.{judged}
 use Rattle.checker.proofs.check_rules.Statement.{statement}
 use Rattle.checker.proofs.check_rules.Tie as tie

@@ -1,6 +1,6 @@
 -- `checker::check_trees` meets its contract. Assumes nothing.
 use borrow.Author.Needs.{needs}
-use Rattle.checker.specs.Passed.{treeRows}
+use Rattle.checker.specs.Rows.{treeRows}
 use Rattle.checker.proofs.Judged.{judged, passed}
 use Rattle.checker.proofs.check_trees.Statement.{statement}
 use Rattle.checker.proofs.check_trees.Tie as tie

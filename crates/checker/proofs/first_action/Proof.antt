@@ -2,13 +2,13 @@
 use Prim.Native.Nat.{_-_}
 use native.Mathlib.Omega.{arith}
 use borrow.Author.Needs.{needs}
-use Rattle.checker.specs.Passed.{actionRow}
+use Rattle.model.specs.Refusals.{pipelineSorts, actionRow}
 use Rattle.checker.proofs.Loops.{Searched, begins, goes-on, stops, ends}
 use Rattle.checker.proofs.first_action.Statement.{statement}
 use Rattle.checker.proofs.first_action.Tie as tie
 
 abbrev Inv-loop : tie.InvT-loop
-Inv-loop p codes count i₀ i = Searched (actionRow p) count i
+Inv-loop p codes count i₀ i = Searched (actionRow p (pipelineSorts p)) count i
 
 abbrev μ-loop : tie.MeasureT-loop
 μ-loop p codes count i₀ i = count - i

@@ -2,13 +2,13 @@
 use Prim.Native.Nat.{_-_}
 use native.Mathlib.Omega.{arith}
 use borrow.Author.Needs.{needs}
-use Rattle.checker.specs.Passed.{widthRow}
+use Rattle.model.specs.Refusals.{fieldRow}
 use Rattle.checker.proofs.Loops.{Searched, begins, goes-on, stops, ends}
 use Rattle.checker.proofs.first_width.Statement.{statement}
 use Rattle.checker.proofs.first_width.Tie as tie
 
 abbrev Inv-loop : tie.InvT-loop
-Inv-loop p count i₀ i = Searched (widthRow p) count i
+Inv-loop p count i₀ i = Searched (fieldRow p) count i
 
 abbrev μ-loop : tie.MeasureT-loop
 μ-loop p count i₀ i = count - i
