@@ -150,14 +150,15 @@ fn unused_zero(kind: Kind, n: Node) -> bool
     both(both(zero_in(a, n.a), zero_in(b, n.b)), zero_in(c, n.c))
 }
 
-// The bytes that stand for the sorts without a width: a node's sort is kept, asked and made as its byte, so that no node waits for
-// the one before it to be decoded and encoded.
+// A node's sort is kept, asked and made as the byte that stands for it (`sortFrom`): to decode and to encode it at each node would make
+// a long chain slow, where each node waits for the one before. These are the bytes of the sorts without a width.
 const MALFORMED: u8 = 0;
 
 const TEST: u8 = 1;
 
 const STATEMENT: u8 = 2;
 
+// The byte of a value. Two widths together have one too: a join makes it first and then tests the sum.
 fn value_code(width: u32) -> u8
     requires { ⌜ width ≤ 64 ⌝ }
     ensures { λ r. ⌜ sortFrom r ≡ Sort.Value width ⌝ }
