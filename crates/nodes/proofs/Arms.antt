@@ -10,6 +10,8 @@ use Rattle.model.specs.Nodes.{roles, alike, only, sortBy}
 use Rattle.model.specs.declared.Kind.{Kind}
 use Rattle.model.specs.declared.Roles.{Roles}
 use Rattle.model.specs.declared.Sort.{Sort}
+use Rattle.nodes.specs.Codes.{sortFrom}
+use Rattle.nodes.proofs.Bytes.{bytes}
 
 pub roles-of : (r : Roles) (k o : Kind) → k ≡ o → r ≡ roles o → r ≡ roles k
 roles-of r k o e h = rw e h
@@ -34,16 +36,16 @@ pub sort-of-kind : (ws : List ℕ) (tables : ℕ) (sort : ℕ → Sort) (a b c :
     → k ≡ o → r ≡ sortBy ws tables sort o a b c → r ≡ sortBy ws tables sort k a b c
 sort-of-kind ws tables sort a b c r k o e h = rw e h
 
-pub only-is : (r s t : Sort) (x y : Bool) → r ≡ only x s → x ≡ y → s ≡ t → r ≡ only y t
-only-is r s t x y h e d = rw (← e, ← d) h
+pub only-is : (r m : ℕ) (t : Sort) (x y : Bool) → sortFrom r ≡ only x (sortFrom m) → x ≡ y → sortFrom m ≡ t → sortFrom r ≡ only y t
+only-is r m t x y h e d = rw (← e, ← d) h
 
 pub both-is : (r x y u v : Bool) → r ≡ (x && y) → x ≡ u → y ≡ v → r ≡ (u && v)
 both-is r x y u v h e d = rw (← e, ← d) h
 
-pub alike-is : (r : Bool) (s t u : Sort) → r ≡ alike s t → t ≡ u → r ≡ alike s u
-alike-is r s t u h e = rw (← e) h
+pub alike-is : (r : Bool) (m w : ℕ) (s : Sort) → r ≡ alike s (sortFrom m) → sortFrom m ≡ Sort.Value w → r ≡ alike s (Sort.Value w)
+alike-is r m w s h e = rw e at h
 
-pub value-is : (v w : ℕ) → v ≡ w → Sort.Value v ≡ Sort.Value w
-value-is v w e = rw e
+pub value-is : (m v w : ℕ) → sortFrom m ≡ Sort.Value v → v ≡ w → sortFrom m ≡ Sort.Value w
+value-is m v w h e = rw (← e) h
 
-pub ruleset arms = (sort-of-kind, only-is, both-is, alike-is, value-is)
+pub ruleset arms = (sort-of-kind, only-is, both-is, alike-is, value-is, bytes)

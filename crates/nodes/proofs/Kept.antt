@@ -77,20 +77,17 @@ module _ {stage : Stage} {ws : List ℕ} {from count : ℕ} {widths : List ℕ} 
   unfolding made
   kept-own h p e = e ∙ rw p (sym (build-at over count i Sort.Malformed h))
 
-  module _ {r : Sort} (e : r ≡ own) where
-    pub own-low : widthOf r ≤ 32
-    own-low = rw e (sort-width widths tables (k .narrow) stage (λ j. nodeAt ws (from + 4 * j)) count i)
-
-    pub kept-stop : (u : Bool) → u ≡ isFormed r → not u ≡ true → i < count → i ≡ firstMalformed stage ws from count widths tables
+  module _ (b : ℕ) (e : sortFrom b ≡ own) where
+    pub kept-stop : (u : Bool) → u ≡ isFormed (sortFrom b) → not u ≡ true → i < count → i ≡ firstMalformed stage ws from count widths tables
     kept-stop u f g h = first-stop _ count i (k .formed) (rw e at (sym f ∙ not-true u g)) h
 
-    pub kept-more : (u : Bool) (b n : ℕ) → u ≡ isFormed r → not u ≡ false → i < count → count ≤ n → length codes ≡ n → sortFrom b ≡ r
+    pub kept-more : (u : Bool) (n : ℕ) → u ≡ isFormed (sortFrom b) → not u ≡ false → i < count → count ≤ n → length codes ≡ n
         → Kept stage ws from count widths tables (set codes i b) (i + 1)
-    kept-more u b n f g h room long d = record {
+    kept-more u n f g h room long = record {
       narrow = k .narrow;
       below = omega arith;
       formed = first-more _ i (k .formed) (rw e at (sym f ∙ not-false u g));
-      coded = coded-more codes _ i b (k .coded) (omega arith) (d ∙ e);
+      coded = coded-more codes _ i b (k .coded) (omega arith) e;
     }
 
   pub kept-end : count ≤ i → i ≡ firstMalformed stage ws from count widths tables

@@ -1,4 +1,5 @@
--- How a sort stands in a byte, so that the sorts so far can be kept in an area of bytes. Assumes nothing: these are definitions.
+-- How a sort stands in a byte: the sorts so far are kept in an area of bytes, and the code makes and asks no other form of a sort.
+-- Assumes nothing: these are definitions.
 use Prim.Native.Nat.{ℕ, _+_, _*_, _-_, _<_}
 use mathlib.Core.Path.{_≡_}
 use mathlib.Core.List.{List}

@@ -150,48 +150,44 @@ fn unused_zero(kind: Kind, n: Node) -> bool
     both(both(zero_in(a, n.a), zero_in(b, n.b)), zero_in(c, n.c))
 }
 
-pub fn width_of(s: Sort) -> u32
-    ensures { λ r. ⌜ r ≡ widthOf s ⌝ }
+// A node's sort is kept, asked and made as the byte that stands for it (`sortFrom`): to decode and to encode it at each node would make
+// a long chain slow, where each node waits for the one before. These are the bytes of the sorts without a width.
+const MALFORMED: u8 = 0;
+
+const TEST: u8 = 1;
+
+const STATEMENT: u8 = 2;
+
+// The byte of a value. Two widths together have one too: a join makes it first and then tests the sum.
+fn value_code(width: u32) -> u8
+    requires { ⌜ width ≤ 64 ⌝ }
+    ensures { λ r. ⌜ sortFrom r ≡ Sort.Value width ⌝ }
 {
-    match s {
-        Sort::Malformed => 0,
-        Sort::Value(w) => w,
-        Sort::Test => 0,
-        Sort::Statement => 0,
-    }
+    (width + 3) as u8
 }
 
-pub fn is_test(s: Sort) -> bool
-    ensures { λ r. ⌜ r ≡ isTest s ⌝ }
+pub fn width_of(code: u8) -> u32
+    ensures { λ r. ⌜ r ≡ widthOf (sortFrom code) ⌝ }
 {
-    match s {
-        Sort::Malformed => false,
-        Sort::Value(_) => false,
-        Sort::Test => true,
-        Sort::Statement => false,
-    }
+    if 3 <= code { code as u32 - 3 } else { 0 }
 }
 
-pub fn is_statement(s: Sort) -> bool
-    ensures { λ r. ⌜ r ≡ isStatement s ⌝ }
+pub fn is_test(code: u8) -> bool
+    ensures { λ r. ⌜ r ≡ isTest (sortFrom code) ⌝ }
 {
-    match s {
-        Sort::Malformed => false,
-        Sort::Value(_) => false,
-        Sort::Test => false,
-        Sort::Statement => true,
-    }
+    code == TEST
 }
 
-pub fn is_formed(s: Sort) -> bool
-    ensures { λ r. ⌜ r ≡ isFormed s ⌝ }
+pub fn is_statement(code: u8) -> bool
+    ensures { λ r. ⌜ r ≡ isStatement (sortFrom code) ⌝ }
 {
-    match s {
-        Sort::Malformed => false,
-        Sort::Value(_) => true,
-        Sort::Test => true,
-        Sort::Statement => true,
-    }
+    code == STATEMENT
+}
+
+pub fn is_formed(code: u8) -> bool
+    ensures { λ r. ⌜ r ≡ isFormed (sortFrom code) ⌝ }
+{
+    code != MALFORMED
 }
 
 pub fn is_width(w: u32) -> bool
@@ -200,22 +196,22 @@ pub fn is_width(w: u32) -> bool
     both(1 <= w, w <= 32)
 }
 
-fn is_value(s: Sort) -> bool
-    ensures { λ r. ⌜ r ≡ isValue s ⌝ }
+fn is_value(code: u8) -> bool
+    ensures { λ r. ⌜ r ≡ isValue (sortFrom code) ⌝ }
 {
-    0 < width_of(s)
+    0 < width_of(code)
 }
 
-fn alike(s: Sort, t: Sort) -> bool
-    ensures { λ r. ⌜ r ≡ alike s t ⌝ }
+fn alike(s: u8, t: u8) -> bool
+    ensures { λ r. ⌜ r ≡ alike (sortFrom s) (sortFrom t) ⌝ }
 {
     both(is_value(s), width_of(s) == width_of(t))
 }
 
-fn only(good: bool, s: Sort) -> Sort
-    ensures { λ r. ⌜ r ≡ only good s ⌝ }
+fn only(good: bool, code: u8) -> u8
+    ensures { λ r. ⌜ sortFrom r ≡ only good (sortFrom code) ⌝ }
 {
-    if good { s } else { Sort::Malformed }
+    if good { code } else { MALFORMED }
 }
 
 // A field's or a variable's width, and 0 where there is none.
@@ -232,131 +228,116 @@ fn below(i: u32, count: usize) -> bool
     (i as usize) < count
 }
 
-fn constant_sort(value: u32, width: u32) -> Sort
-    ensures { λ r. ⌜ r ≡ only (isWidth width && fits width value) (Sort.Value width) ⌝ }
+fn constant_sort(value: u32, width: u32) -> u8
+    ensures { λ r. ⌜ sortFrom r ≡ only (isWidth width && fits width value) (Sort.Value width) ⌝ }
 {
     if is_width(width) {
-        only(bits::fits(width, value), Sort::Value(width))
+        only(bits::fits(width, value), value_code(width))
     } else {
-        Sort::Malformed
+        MALFORMED
     }
 }
 
-fn slice_sort(operand: Sort, high: u32, low: u32) -> Sort
-    requires { ⌜ widthOf operand ≤ 32 ⌝ }
-    ensures { λ r. ⌜ r ≡ only (ltb high (widthOf operand) && leb low high) (Sort.Value (high - low + 1)) ⌝ }
+fn parameter_sort(width: u32) -> u8
+    ensures { λ r. ⌜ sortFrom r ≡ only (isWidth width) (Sort.Value width) ⌝ }
+{
+    if is_width(width) {
+        value_code(width)
+    } else {
+        MALFORMED
+    }
+}
+
+fn slice_sort(operand: u8, high: u32, low: u32) -> u8
+    requires { ⌜ widthOf (sortFrom operand) ≤ 32 ⌝ }
+    ensures { λ r. ⌜ sortFrom r ≡ only (ltb high (widthOf (sortFrom operand)) && leb low high) (Sort.Value (high - low + 1)) ⌝ }
 {
     if high < width_of(operand) {
         if low <= high {
-            return Sort::Value(high - low + 1);
+            return value_code(high - low + 1);
         }
     }
-    Sort::Malformed
+    MALFORMED
 }
 
-fn join_sort(above: Sort, below: Sort) -> Sort
-    requires { ⌜ (widthOf above ≤ 32) × (widthOf below ≤ 32) ⌝ }
-    ensures { λ r. ⌜ r ≡ only (isValue above && isValue below && leb (widthOf above + widthOf below) 32) (Sort.Value (widthOf above + widthOf below)) ⌝ }
+fn join_sort(above: u8, below: u8) -> u8
+    requires { ⌜ (widthOf (sortFrom above) ≤ 32) × (widthOf (sortFrom below) ≤ 32) ⌝ }
+    ensures { λ r. ⌜ sortFrom r ≡ only (isValue (sortFrom above) && isValue (sortFrom below) && leb (widthOf (sortFrom above) + widthOf (sortFrom below)) 32)
+        (Sort.Value (widthOf (sortFrom above) + widthOf (sortFrom below))) ⌝ }
 {
     let total = width_of(above) + width_of(below);
     only(
         both(both(is_value(above), is_value(below)), total <= 32),
-        Sort::Value(total),
+        value_code(total),
     )
 }
 
 // The sorts of a node's three words, each as if it were a child.
 pub struct Three {
-    pub a: Sort,
-    pub b: Sort,
-    pub c: Sort,
+    pub a: u8,
+    pub b: u8,
+    pub c: u8,
 }
 
 // The sort of a node of a kind.
-fn sort_by(widths: &[u32], tables: usize, kind: Kind, n: Node, s: Three) -> Sort
-    requires { ⌜ (widthOf (s .a) ≤ 32) × (widthOf (s .b) ≤ 32) ⌝ }
-    ensures { λ r. ⌜ ((sort : ℕ → Sort) → s .a ≡ sort (n .a) → s .b ≡ sort (n .b) → s .c ≡ sort (n .c)
-        → r ≡ sortBy (now (widths .entry)) tables sort kind (n .a) (n .b) (n .c)) ⌝ }
+fn sort_by(widths: &[u32], tables: usize, kind: Kind, n: Node, s: Three) -> u8
+    requires { ⌜ (widthOf (sortFrom (s .a)) ≤ 32) × (widthOf (sortFrom (s .b)) ≤ 32) ⌝ }
+    requires { ⌜ ((x : ℕ) → word (now widths) x ≤ 32) ⌝ }
+    ensures { λ r. ⌜ ((sort : ℕ → Sort) → sortFrom (s .a) ≡ sort (n .a) → sortFrom (s .b) ≡ sort (n .b) → sortFrom (s .c) ≡ sort (n .c)
+        → sortFrom r ≡ sortBy (now (widths .entry)) tables sort kind (n .a) (n .b) (n .c)) ⌝ }
 {
     let a = s.a;
     let b = s.b;
     let c = s.c;
     match kind {
         Kind::Constant => constant_sort(n.a, n.b),
-        Kind::Field => only(below(n.a, widths.len()), Sort::Value(width_at(widths, n.a))),
-        Kind::Parameter => only(is_width(n.b), Sort::Value(n.b)),
+        Kind::Field => only(below(n.a, widths.len()), value_code(width_at(widths, n.a))),
+        Kind::Parameter => parameter_sort(n.b),
         Kind::Binary(_) => only(alike(a, b), a),
         Kind::Complement => only(is_value(a), a),
         Kind::Slice => slice_sort(a, n.b, n.c),
         Kind::Join => join_sort(a, b),
         Kind::Select => only(both(is_test(a), alike(b, c)), b),
-        Kind::Truth => only(n.a <= 1, Sort::Test),
-        Kind::Compare(_) => only(alike(a, b), Sort::Test),
-        Kind::Not => only(is_test(a), Sort::Test),
-        Kind::Connect(_) => only(both(is_test(a), is_test(b)), Sort::Test),
-        Kind::Skip => Sort::Statement,
+        Kind::Truth => only(n.a <= 1, TEST),
+        Kind::Compare(_) => only(alike(a, b), TEST),
+        Kind::Not => only(is_test(a), TEST),
+        Kind::Connect(_) => only(both(is_test(a), is_test(b)), TEST),
+        Kind::Skip => STATEMENT,
         Kind::Assign => only(
             both(
                 below(n.a, widths.len()),
-                alike(b, Sort::Value(width_at(widths, n.a))),
+                alike(b, value_code(width_at(widths, n.a))),
             ),
-            Sort::Statement,
+            STATEMENT,
         ),
-        Kind::Havoc => only(below(n.a, widths.len()), Sort::Statement),
-        Kind::Assume => only(is_test(a), Sort::Statement),
-        Kind::Assert => only(is_test(a), Sort::Statement),
-        Kind::Sequence => only(both(is_statement(a), is_statement(b)), Sort::Statement),
-        Kind::Choice => only(both(is_statement(a), is_statement(b)), Sort::Statement),
-        Kind::Apply => only(below(n.a, tables), Sort::Statement),
-        Kind::Unknown => Sort::Malformed,
+        Kind::Havoc => only(below(n.a, widths.len()), STATEMENT),
+        Kind::Assume => only(is_test(a), STATEMENT),
+        Kind::Assert => only(is_test(a), STATEMENT),
+        Kind::Sequence => only(both(is_statement(a), is_statement(b)), STATEMENT),
+        Kind::Choice => only(both(is_statement(a), is_statement(b)), STATEMENT),
+        Kind::Apply => only(below(n.a, tables), STATEMENT),
+        Kind::Unknown => MALFORMED,
     }
 }
 
 // The sort of a node, from the sorts of its children: Check, Condition and Evaluate call this.
-pub fn sort_of(stage: Stage, widths: &[u32], tables: usize, n: Node, s: Three) -> Sort
-    requires { ⌜ (widthOf (s .a) ≤ 32) × (widthOf (s .b) ≤ 32) ⌝ }
-    ensures { λ r. ⌜ ((before : List Sort) → s .a ≡ getD before (n .a) Sort.Malformed → s .b ≡ getD before (n .b) Sort.Malformed
-        → s .c ≡ getD before (n .c) Sort.Malformed → r ≡ sortOf stage (now (widths .entry)) tables before n) ⌝ }
+pub fn sort_of(stage: Stage, widths: &[u32], tables: usize, n: Node, s: Three) -> u8
+    requires { ⌜ (widthOf (sortFrom (s .a)) ≤ 32) × (widthOf (sortFrom (s .b)) ≤ 32) ⌝ }
+    requires { ⌜ ((x : ℕ) → word (now widths) x ≤ 32) ⌝ }
+    ensures { λ r. ⌜ ((before : List Sort) → sortFrom (s .a) ≡ getD before (n .a) Sort.Malformed → sortFrom (s .b) ≡ getD before (n .b) Sort.Malformed
+        → sortFrom (s .c) ≡ getD before (n .c) Sort.Malformed → sortFrom r ≡ sortOf stage (now (widths .entry)) tables before n) ⌝ }
 {
     let kind = kind_of(stage, n.kind);
     only(unused_zero(kind, n), sort_by(widths, tables, kind, n, s))
 }
 
-// The sort that a byte stands for.
-fn sort_from(code: u8) -> Sort
-    ensures { λ r. ⌜ r ≡ sortFrom code ⌝ }
-{
-    match code {
-        0 => Sort::Malformed,
-        1 => Sort::Test,
-        2 => Sort::Statement,
-        _ => Sort::Value(code as u32 - 3),
-    }
-}
-
-fn code_of(s: Sort) -> u8
-    requires { ⌜ widthOf s ≤ 32 ⌝ }
-    ensures { λ r. ⌜ sortFrom r ≡ s ⌝ }
-{
-    match s {
-        Sort::Malformed => 0,
-        Sort::Test => 1,
-        Sort::Statement => 2,
-        Sort::Value(w) => (w + 3) as u8,
-    }
-}
-
 // The sort of node x, if it is one of the first `count`.
-pub fn sort_in(codes: &[u8], count: usize, x: u32) -> Sort
+pub fn sort_in(codes: &[u8], count: usize, x: u32) -> u8
     requires { ⌜ count ≤ length (now codes) ⌝ }
-    ensures { λ r. ⌜ r ≡ (if ltb x count then sortFrom (word (now (codes .entry)) x) else Sort.Malformed) ⌝ }
+    ensures { λ r. ⌜ sortFrom r ≡ (if ltb x count then sortFrom (word (now (codes .entry)) x) else Sort.Malformed) ⌝ }
 {
     let at = x as usize;
-    if at < count {
-        sort_from(codes[at])
-    } else {
-        Sort::Malformed
-    }
+    if at < count { codes[at] } else { MALFORMED }
 }
 
 // The first node that is malformed, or the count; the sorts of those before it stand in `codes`.
@@ -387,7 +368,7 @@ pub fn first_malformed(
         if !is_formed(sort) {
             return i;
         }
-        codes[i] = code_of(sort);
+        codes[i] = sort;
         i += 1;
     }
     i

@@ -4,7 +4,8 @@ use native.Mathlib.Omega.{arith}
 use mathlib.Core.Path.{_≡_, refl}
 use lib.ListN.{length, length-set}
 use borrow.Author.Needs.{needs}
-use Rattle.nodes.proofs.Kept.{Kept, own, kept-none, kept-child, child-low, kept-own, own-low, kept-stop, kept-more, kept-end}
+use Rattle.nodes.specs.Codes.{sortFrom}
+use Rattle.nodes.proofs.Kept.{Kept, own, kept-none, kept-child, child-low, kept-own, kept-stop, kept-more, kept-end}
 use Rattle.nodes.proofs.first_malformed.Statement.{statement}
 use Rattle.nodes.proofs.first_malformed.Tie as tie
 
@@ -15,7 +16,7 @@ abbrev μ-loop : tie.MeasureT-loop
 μ-loop stage ws from count widths tables codes₀ i₀ codes i = count - i
 
 -- the node's sort is its sort in the whole list
-sort-own : (c : tie.After-sort-of Inv-loop μ-loop) → c .sort-of .result ≡ own (c .before .before .before .before .before .before .before .before .before .loop .inv .1)
+sort-own : (c : tie.After-sort-of Inv-loop μ-loop) → sortFrom (c .sort-of .result) ≡ own (c .before .before .before .before .before .before .before .before .before .loop .inv .1)
 sort-own c = search (kept-own, kept-child, c .sort-of .ensures)
 
 pub first-malformed-spec : {M : Type 1} → statement M
@@ -31,10 +32,9 @@ first-malformed-spec = tie.close (tie.spec Inv-loop μ-loop
     (λ c κs. search needs)  -- is-formed-requires
     (λ c. search needs)  -- same-length
     (λ c. search (kept-stop, sort-own (c .before .before)))  -- returns
-    (λ c κs. search (own-low, sort-own (c .before .before)))  -- code-of-requires
     (λ c. omega arith)  -- slice-write-codes
     (λ c. omega arith)  -- add-i
     (λ c. omega arith)  -- loop-less
-    (λ c. (simp length-set (omega arith), search (kept-more, sort-own (c .before .before .before))))  -- loop-again
+    (λ c. (simp length-set (omega arith), search (kept-more, sort-own (c .before .before))))  -- loop-again
     (λ c. search needs)  -- same-length-2
     (λ c. search kept-end))  -- returns-2

@@ -1,5 +1,6 @@
 -- `nodes::sort_by` meets its contract. Assumes nothing.
 use mathlib.Core.Path.{sym}
+use native.Mathlib.Omega.{arith}
 use Rattle.nodes.proofs.Arms.{arms}
 use borrow.Author.Needs.{needs}
 use Rattle.nodes.proofs.sort_by.Statement.{statement}
@@ -12,10 +13,10 @@ sort-by-spec = tie.close (tie.spec
     (λ c. search needs)  -- enum-told-2
     (λ c κs. search needs)  -- below-requires
     (λ c κs. search needs)  -- width-at-requires
+    (λ c κs. let s = c .before .before .before .before .before in omega (arith, s .pre .1 (s .args .n .a)))  -- value-code-requires
     (λ c κs. search needs)  -- only-requires
     (λ c. search needs)  -- enum-told-3
-    (λ c κs. search needs)  -- is-width-requires
-    (λ c κs. search needs)  -- only-requires-2
+    (λ c κs. search needs)  -- parameter-sort-requires
     (λ c. search needs)  -- enum-told-4
     (λ c κs. search needs)  -- alike-requires
     (λ c κs. search needs)  -- only-requires-3
@@ -48,6 +49,7 @@ sort-by-spec = tie.close (tie.spec
     (λ c. search needs)  -- enum-told-14
     (λ c κs. search needs)  -- below-requires-2
     (λ c κs. search needs)  -- width-at-requires-2
+    (λ c κs. let s = c .before .before .before .before .before in omega (arith, s .pre .1 (s .args .n .a)))  -- value-code-requires-2
     (λ c κs. search needs)  -- alike-requires-4
     (λ c κs. search needs)  -- both-requires-3
     (λ c κs. search needs)  -- only-requires-10
@@ -87,7 +89,7 @@ sort-by-spec = tie.close (tie.spec
     (λ c sort p q t. search (arms, sym p))  -- returns-11
     (λ c sort p q t. search (arms, sym p, sym q))  -- returns-12
     (λ c sort p q t. search arms)  -- returns-13
-    (λ c sort p q t. search (arms, sym q))  -- returns-14
+    (λ c sort p q t. search (arms, sym q) depth 6)  -- returns-14
     (λ c sort p q t. search arms)  -- returns-15
     (λ c sort p q t. search (arms, sym p))  -- returns-16
     (λ c sort p q t. search (arms, sym p))  -- returns-17
