@@ -1,5 +1,6 @@
 // Arithmetic at a width of 1 to 32 bits, on u32. Sums and shifts go through u64, where a value of 33 bits has room.
 ghost use mathlib.Core.Path.{_≡_};
+ghost use mathlib.Core.Bool.{_&&_};
 ghost use Prim.Native.Nat.{_-_, _%_, _^_, _<_, _≤_};
 ghost use lib.Bits.{bitAnd, bitOr, bitXor};
 ghost use Rattle.bits.specs.Width.{fits, sum, difference, binary, complement, slice, join, less, under};
@@ -127,4 +128,11 @@ pub fn under(mask: u32, value: u32, x: u32) -> bool
     ensures { λ r. ⌜ r ≡ under mask value x ⌝ }
 {
     (x & mask) == value
+}
+
+// Both, with no branch: the parts are cheap, and a proof has one way instead of two.
+pub fn both(x: bool, y: bool) -> bool
+    ensures { λ r. ⌜ r ≡ (x && y) ⌝ }
+{
+    x & y
 }

@@ -1,10 +1,10 @@
 // The records of a pipeline block and of a rule block, read in place. Counts and places are usize; a word is as the block has it.
 use model::Node;
 ghost use mathlib.Core.Path.{_≡_};
-ghost use Prim.Native.Nat.{_+_, _*_, _≤_, _<_};
+ghost use Prim.Native.Nat.{_+_, _*_, _≤_, _<_, _^_};
 ghost use lib.ListN.{length};
 ghost use Rattle.model.specs.Lists.{word};
-ghost use Rattle.model.specs.Blocks.{F, N, A as actions, T, R, root, width, nodePlace, actionPlace, tablePlace, rulePlace, nodeAt, pipelineNode, body, parameterCount, parameterWidth, keyCount, key, defaultPlace, tableOf, value, mask, callPlace};
+ghost use Rattle.model.specs.Blocks.{F, N, A as actions, T, R, root, pipelineLength, width, widths, nodePlace, actionPlace, tablePlace, rulePlace, nodeAt, pipelineNode, body, parameterCount, parameterWidth, keyCount, key, defaultPlace, tableOf, value, mask, callPlace};
 ghost use Rattle.blocks.specs.Whole.{Whole};
 
 // How many words stand before the first record of a pipeline block, and how many a record has.
@@ -25,6 +25,27 @@ pub fn wide(x: u32) -> usize
     ensures { λ r. ⌜ r ≡ x ⌝ }
 {
     x as usize
+}
+
+// A count of the block, whatever it says.
+fn count_at(p: &[u32], i: usize) -> usize
+    requires { ⌜ i < length (now p) ⌝ }
+    ensures { λ r. ⌜ r ≡ word (now (p .entry)) i ⌝ }
+    ensures { λ r. ⌜ r < 2 ^ 32 ⌝ }
+{
+    p[i] as usize
+}
+
+// The length that the counts ask for.
+pub fn length(p: &[u32]) -> usize
+    requires { ⌜ 5 ≤ length (now p) ⌝ }
+    ensures { λ r. ⌜ r ≡ pipelineLength (now (p .entry)) ⌝ }
+{
+    let fields = FIELD * count_at(p, 0);
+    let nodes = NODE * count_at(p, 1);
+    let actions = ACTION * count_at(p, 2);
+    let tables = TABLE * count_at(p, 3);
+    HEAD + fields + nodes + actions + tables
 }
 
 // The word at a place.
@@ -76,6 +97,15 @@ pub fn width(p: &[u32], i: usize) -> u32
     ensures { λ r. ⌜ r ≡ width (now (p .entry)) i ⌝ }
 {
     word(p, HEAD + FIELD * i)
+}
+
+// The fields' widths, one after the other.
+pub fn widths(p: &[u32]) -> &[u32]
+    requires { ⌜ Whole (now p) ⌝ }
+    ensures { λ r. ⌜ now r ≡ widths (now (p .entry)) ⌝ }
+{
+    let end = HEAD + FIELD * field_count(p);
+    &p[HEAD..end]
 }
 
 // The node whose words stand at a place.

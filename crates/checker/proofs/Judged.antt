@@ -19,7 +19,7 @@ use Rattle.model.proofs.Accepted.{counts, action-fits}
 use Rattle.model.proofs.Passing.{told-done, told-refused}
 use Rattle.nodes.specs.Codes.{Coded}
 use Rattle.uses.specs.Counts.{firstMiscounted}
-use Rattle.uses.specs.Owners.{Tree}
+use Rattle.uses.specs.Owners.{UsedOnce}
 use Rattle.checker.specs.Rows.{Sized, Passes, firstIn, treeRows, sortedRows, pipelineRows, ruleRows}
 
 -- a row refuses at the place that its loop found, or lets the next one judge
@@ -56,7 +56,7 @@ module _ (p : List ℕ) (x n : ℕ) where
   pub coded-all : (codes : List ℕ) → n ≡ N p → n ≤ x → Coded codes (pipelineSorts p) x → Coded codes (pipelineSorts p) (N p)
   coded-all codes k h q = record { at = λ y l. q .at y (omega (arith, k)) }
 
-  pub tree : Passes (nodeRow p (pipelineSorts p)) → Passes (actionRow p (pipelineSorts p)) → x ≡ firstMiscounted p → n ≡ N p → n ≤ x → Tree p
+  pub tree : Passes (nodeRow p (pipelineSorts p)) → Passes (actionRow p (pipelineSorts p)) → x ≡ firstMiscounted p → n ≡ N p → n ≤ x → UsedOnce p
   tree f a e k h = record {
     formed = f .at;
     bodies = λ i l. action-fits p i (a .at i l) .0;

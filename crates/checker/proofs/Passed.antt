@@ -1,13 +1,11 @@
 -- What the rows of Check's table that have passed let the later ones rely on. Assumes nothing.
 use Prim.Native.Nat.{ℕ, _-_, _<_, _≤_}
-use native.Mathlib.Nat.{one-mul}
 use native.Mathlib.Omega.{arith}
 use mathlib.Core.Path.{_≡_}
 use mathlib.Core.Bool.{Bool, false, _&&_}
 use mathlib.Core.List.{List}
 use lib.Dec.{eqb}
-use lib.ListN.{length, getD, take, drop, length-take, length-drop}
-use lib.Seq.{ext-getD, getD-take, getD-drop}
+use lib.ListN.{length}
 use borrow.Author.Tests.{lt-ltb, le-ltb}
 use Rattle.bits.specs.Width.{fits, under}
 use Rattle.model.specs.Lists.{word, every}
@@ -18,8 +16,7 @@ use Rattle.model.specs.declared.Stage.{Stage}
 use Rattle.model.proofs.SortTests.{width-true}
 use Rattle.model.proofs.SortWidths.{all-narrow}
 use Rattle.model.proofs.Accepted.{all-widths, table-keys}
-use Rattle.model.proofs.Lists.{length-build, length-each, each-at}
-use Rattle.blocks.specs.Whole.{Whole}
+use Rattle.model.proofs.Lists.{length-build}
 use Rattle.nodes.specs.Codes.{Coded, sortsFrom, firstMalformed}
 use Rattle.checker.specs.Rows.{Passes, firstIn}
 
@@ -69,36 +66,18 @@ pub sorts-length : (p : List ℕ) → length (pipelineSorts p) ≡ N p
 unfolding pipelineSorts
 sorts-length p = length-build (λ before i. sortOf Stage.Pipeline (widths p) (T p) before (pipelineNode p i)) (N p)
 
--- the fields' widths are a part of the block
-widths-there : (p : List ℕ) → Whole p → take (F p) (drop 5 p) ≡ widths p
-widths-there p h = ext-getD 0 (take (F p) (drop 5 p)) (widths p) long at
-  where
-    long : length (take (F p) (drop 5 p)) ≡ length (widths p)
-    long = simp (length-take, length-drop, length-each) (omega arith)
-
-    at : (i : ℕ) → i < length (take (F p) (drop 5 p)) → getD (take (F p) (drop 5 p)) i 0 ≡ getD (widths p) i 0
-    at i k =
-        let l : i < F p = omega (arith, rw (long, length-each (width p) (F p)) at k) in
-        rw (getD-take, getD-drop, each-at (width p) (F p) i 0 l, one-mul)
-
-pub sorts-there : (p ws : List ℕ) (from : ℕ) → Whole p → from ≡ nodePlace p 0 → ws ≡ take (from - 5) (drop 5 p)
-    → sortsFrom Stage.Pipeline p from (N p) ws (T p) ≡ pipelineSorts p
+pub sorts-there : (p ws : List ℕ) (from : ℕ) → from ≡ nodePlace p 0 → ws ≡ widths p → sortsFrom Stage.Pipeline p from (N p) ws (T p) ≡ pipelineSorts p
 unfolding pipelineSorts
-sorts-there p ws from h e d =
-    let place : from ≡ fieldPlace p (F p) = omega arith in
-    let fields : from - 5 ≡ F p = omega arith in
-    rw (d, fields, widths-there p h, place)
+sorts-there p ws from e d = let place : from ≡ fieldPlace p (F p) = omega arith in rw (d, place)
 
--- 3 lets all of them, and what stands past the last, be narrow
-pub narrow-words : (p ws : List ℕ) (from : ℕ) → Whole p → Passes (fieldRow p) → from ≡ nodePlace p 0 → ws ≡ take (from - 5) (drop 5 p) → (x : ℕ) → word ws x ≤ 32
-narrow-words p ws from h k e d x =
-    let fields : from - 5 ≡ F p = omega arith in
-    rw (d, fields, widths-there p h) (all-narrow (widths p) (all-widths p (k .at)) x)
+-- 3 lets all widths, and what stands past the last, be narrow
+pub narrow-words : (p ws : List ℕ) → Passes (fieldRow p) → ws ≡ widths p → (x : ℕ) → word ws x ≤ 32
+narrow-words p ws k d x = rw d (all-narrow (widths p) (all-widths p (k .at)) x)
 
 -- the first malformed node is the place that 4 gives
-pub nodes-found : (p ws codes : List ℕ) (from count tables x : ℕ) → Whole p → from ≡ nodePlace p 0 → ws ≡ take (from - 5) (drop 5 p)
-    → count ≡ N p → tables ≡ T p → x ≡ firstMalformed Stage.Pipeline p from count ws tables → Coded codes (sortsFrom Stage.Pipeline p from count ws tables) x
+pub nodes-found : (p ws codes : List ℕ) (from count tables x : ℕ) → from ≡ nodePlace p 0 → ws ≡ widths p → count ≡ N p → tables ≡ T p
+    → x ≡ firstMalformed Stage.Pipeline p from count ws tables → Coded codes (sortsFrom Stage.Pipeline p from count ws tables) x
     → (x ≡ firstIn (nodeRow p (pipelineSorts p))) × Coded codes (pipelineSorts p) x
-nodes-found p ws codes from count tables x h e d n t first coded =
-    let same = sorts-there p ws from h e d in
+nodes-found p ws codes from count tables x e d n t first coded =
+    let same = sorts-there p ws from e d in
     (rw (n, t, same) at first, rw (n, t, same) at coded)

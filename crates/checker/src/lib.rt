@@ -1,17 +1,17 @@
 // Check: a pipeline block and its rule block are accepted, or refused with the first number of 2 to 10 that applies, and its place.
+use bits::both;
 use model::Checked;
 use model::Refusal;
 use model::Stage;
-use nodes::both;
 ghost use mathlib.Core.Path.{_≡_};
 ghost use mathlib.Core.Bool.{_&&_};
 ghost use mathlib.Core.List.{[]};
-ghost use Prim.Native.Nat.{_+_, _*_, _≤_, _<_, _^_};
+ghost use Prim.Native.Nat.{_+_, _≤_, _<_};
 ghost use lib.Dec.{ltb, leb};
 ghost use lib.ListN.{length};
 ghost use Rattle.bits.specs.Width.{fits};
 ghost use Rattle.model.specs.Lists.{within, every, word};
-ghost use Rattle.model.specs.Blocks.{F, N, A as actions, T, R, pipelineLength, width, callAt, parameterCount, parameterWidth, keyCount, key, tableOf};
+ghost use Rattle.model.specs.Blocks.{F, N, A as actions, T, R, width, callAt, parameterCount, parameterWidth, keyCount, key, tableOf};
 ghost use Rattle.model.specs.Nodes.{isWidth, isStatement};
 ghost use Rattle.model.specs.Answers.{told, checked};
 ghost use Rattle.model.specs.Refusals.{judge, countsWell, pipelineSorts, sortAt, wellOrZero, usedOrZero, actionWell, callWell, tableWell, pairWell, ruleWell, fieldRow, nodeRow, actionRow, tableRow, ruleRow};
@@ -24,26 +24,6 @@ fn within(low: u32, high: u32, n: u32) -> bool
     ensures { λ r. ⌜ r ≡ within low high n ⌝ }
 {
     both(low <= n, n <= high)
-}
-
-// A count of the block, whatever it says.
-fn count_at(p: &[u32], i: usize) -> usize
-    requires { ⌜ i < length (now p) ⌝ }
-    ensures { λ r. ⌜ r ≡ word (now (p .entry)) i ⌝ }
-    ensures { λ r. ⌜ r < 2 ^ 32 ⌝ }
-{
-    p[i] as usize
-}
-
-fn pipeline_length(p: &[u32]) -> usize
-    requires { ⌜ 5 ≤ length (now p) ⌝ }
-    ensures { λ r. ⌜ r ≡ pipelineLength (now (p .entry)) ⌝ }
-{
-    let fields = blocks::FIELD * count_at(p, 0);
-    let nodes = blocks::NODE * count_at(p, 1);
-    let actions = blocks::ACTION * count_at(p, 2);
-    let tables = blocks::TABLE * count_at(p, 3);
-    blocks::HEAD + fields + nodes + actions + tables
 }
 
 // The limits of the counts.
@@ -62,7 +42,7 @@ fn counts_well(p: &[u32], r: &[u32]) -> bool
     if p.len() < blocks::HEAD {
         return false;
     }
-    let pipeline = both(limits_well(p), p.len() == pipeline_length(p));
+    let pipeline = both(limits_well(p), p.len() == blocks::length(p));
     let rules = both(pipeline, r.len() % blocks::RULE == 0);
     both(rules, blocks::rule_count(r) <= 256)
 }
@@ -90,7 +70,7 @@ fn first_node(p: &[u32], codes: &mut [u8; 1024]) -> usize
     ensures { λ r. ⌜ Coded (now (codes .exit)) (pipelineSorts (now (p .entry))) r ⌝ }
 {
     let from = blocks::node_place(p, 0);
-    let widths = &p[blocks::HEAD..from];
+    let widths = blocks::widths(p);
     nodes::first_malformed(
         Stage::Pipeline,
         p,

@@ -1,6 +1,7 @@
 // Nodes, wherever they stand, in a pipeline, a passive form or a condition: the kind of a number, what its words are, the sort of a node
 // from the sorts of its children, and the first node of a list that is malformed.
 use bits::Op;
+use bits::both;
 use model::Comparison;
 use model::Connective;
 use model::Kind;
@@ -53,13 +54,6 @@ pub fn kind_in(number: u32) -> Kind
         39 => Kind::Apply,
         _ => Kind::Unknown,
     }
-}
-
-// Both, with no branch: the parts are cheap, and a proof has one way instead of two.
-pub fn both(x: bool, y: bool) -> bool
-    ensures { λ r. ⌜ r ≡ (x && y) ⌝ }
-{
-    x & y
 }
 
 fn pipeline_only(number: u32) -> bool

@@ -16,7 +16,7 @@ use Rattle.model.specs.declared.Role.{Role}
 use Rattle.model.proofs.Accepted.{statement-below}
 use Rattle.model.proofs.Times.{times-same, times-other, among-append}
 use Rattle.model.proofs.Uses.{childrenOf, one-parent, no-body, one-body, under-self, children-below, under-child}
-use Rattle.uses.specs.Owners.{Tree, Gives, Owned}
+use Rattle.uses.specs.Owners.{UsedOnce, Gives, Owned}
 
 -- ---- a byte, and more bytes
 
@@ -80,7 +80,7 @@ owned-none p few =
       stands = λ x k h e. absurd (omega (arith, getD-replicate {A = ℕ} 1024 x 0 0 (omega arith)));
     }
 
-module _ (p : List ℕ) (few : N p ≤ 1024) (tree : Tree p) where
+module _ (p : List ℕ) (few : N p ≤ 1024) (tree : UsedOnce p) where
   body-below : (k : ℕ) → k < A p → body p k < N p
   body-below k h = statement-below p (body p k) (tree .bodies k h)
 

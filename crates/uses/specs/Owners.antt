@@ -11,7 +11,7 @@ use Rattle.model.specs.Nodes.{isFormed, isStatement, children}
 use Rattle.model.specs.Refusals.{pipelineSorts, sortAt, uses, underEach, standsUnder, placedWell}
 
 -- what Check knows where it gives none of 4, 5 and 8: each node has one parent, is one action's body, or is the root
-pub record Tree (p : List ℕ) : Type 0 where
+pub record UsedOnce (p : List ℕ) : Type 0 where
   pub formed : (i : ℕ) → i < N p → isFormed (sortAt (pipelineSorts p) i) ≡ true
   pub bodies : (k : ℕ) → k < A p → isStatement (sortAt (pipelineSorts p) (body p k)) ≡ true
   pub parameters : (k : ℕ) → k < A p → parameterCount p k ≤ 2

@@ -10,7 +10,7 @@ ghost use Rattle.model.specs.Nodes.{childIn, children};
 ghost use Rattle.model.specs.Refusals.{underEach, placedWell};
 ghost use Rattle.blocks.specs.Whole.{Whole};
 ghost use Rattle.uses.specs.Counts.{Counted, Adds, firstNotOnce, firstMiscounted};
-ghost use Rattle.uses.specs.Owners.{Tree, Gives, Owned, hasParameter, firstMisplaced};
+ghost use Rattle.uses.specs.Owners.{UsedOnce, Gives, Owned, hasParameter, firstMisplaced};
 
 // One more use of node x. What is used twice stays at 2.
 fn count(counts: &mut [u8; 1024], x: u32)
@@ -142,7 +142,7 @@ fn own_bodies(p: &[u32], owners: &mut [u8; 1024])
     requires { ⌜ Whole (now p) ⌝ }
     requires { ⌜ N (now p) ≤ 1024 ⌝ }
     requires { ⌜ actions (now p) ≤ 64 ⌝ }
-    requires { ⌜ Tree (now p) ⌝ }
+    requires { ⌜ UsedOnce (now p) ⌝ }
     requires { ⌜ Owned (now p) 0 (N (now p)) (now owners) ⌝ }
     ensures { λ _. ⌜ Owned (now (p .entry)) (actions (now (p .entry))) (N (now (p .entry))) (now (owners .exit)) ⌝ }
 {
@@ -158,7 +158,7 @@ fn own_bodies(p: &[u32], owners: &mut [u8; 1024])
 fn own_children(p: &[u32], owners: &mut [u8; 1024])
     requires { ⌜ Whole (now p) ⌝ }
     requires { ⌜ N (now p) ≤ 1024 ⌝ }
-    requires { ⌜ Tree (now p) ⌝ }
+    requires { ⌜ UsedOnce (now p) ⌝ }
     requires { ⌜ Owned (now p) (actions (now p)) (N (now p)) (now owners) ⌝ }
     ensures { λ _. ⌜ Owned (now (p .entry)) (actions (now (p .entry))) 0 (now (owners .exit)) ⌝ }
 {
@@ -172,7 +172,7 @@ fn own_children(p: &[u32], owners: &mut [u8; 1024])
 // Whether an owner is an action, and one that has parameter a with width b.
 fn has_parameter(p: &[u32], owner: usize, a: u32, b: u32) -> bool
     requires { ⌜ Whole (now p) ⌝ }
-    requires { ⌜ Tree (now p) ⌝ }
+    requires { ⌜ UsedOnce (now p) ⌝ }
     requires { ⌜ owner ≤ actions (now p) ⌝ }
     ensures { λ r. ⌜ r ≡ hasParameter (now (p .entry)) owner a b ⌝ }
 {
@@ -190,7 +190,7 @@ fn has_parameter(p: &[u32], owner: usize, a: u32, b: u32) -> bool
 fn placed_well(p: &[u32], owners: &[u8; 1024], i: usize) -> bool
     requires { ⌜ Whole (now p) ⌝ }
     requires { ⌜ N (now p) ≤ 1024 ⌝ }
-    requires { ⌜ Tree (now p) ⌝ }
+    requires { ⌜ UsedOnce (now p) ⌝ }
     requires { ⌜ Owned (now p) (actions (now p)) 0 (now owners) ⌝ }
     requires { ⌜ i < N (now p) ⌝ }
     ensures { λ r. ⌜ r ≡ placedWell (now (p .entry)) (underEach (now (p .entry))) i ⌝ }
@@ -208,7 +208,7 @@ fn placed_well(p: &[u32], owners: &[u8; 1024], i: usize) -> bool
 fn first_unplaced(p: &[u32], owners: &[u8; 1024]) -> usize
     requires { ⌜ Whole (now p) ⌝ }
     requires { ⌜ N (now p) ≤ 1024 ⌝ }
-    requires { ⌜ Tree (now p) ⌝ }
+    requires { ⌜ UsedOnce (now p) ⌝ }
     requires { ⌜ Owned (now p) (actions (now p)) 0 (now owners) ⌝ }
     ensures { λ r. ⌜ r ≡ firstMisplaced (now (p .entry)) ⌝ }
 {
@@ -228,7 +228,7 @@ pub fn first_misplaced(p: &[u32]) -> usize
     requires { ⌜ Whole (now p) ⌝ }
     requires { ⌜ N (now p) ≤ 1024 ⌝ }
     requires { ⌜ actions (now p) ≤ 64 ⌝ }
-    requires { ⌜ Tree (now p) ⌝ }
+    requires { ⌜ UsedOnce (now p) ⌝ }
     ensures { λ r. ⌜ r ≡ firstMisplaced (now (p .entry)) ⌝ }
 {
     let mut owners = [0u8; 1024];

@@ -1,5 +1,4 @@
 -- `checker::first_node` meets its contract. Assumes nothing.
-use mathlib.Core.Path.{refl}
 use native.Mathlib.Omega.{arith}
 use borrow.Author.Needs.{needs}
 use Rattle.checker.proofs.Passed.{narrow-words, nodes-found}
@@ -9,10 +8,13 @@ use Rattle.checker.proofs.first_node.Tie as tie
 pub first-node-spec : {M : Type 1} → statement M
 first-node-spec = tie.close (tie.spec
     (λ c κs. (search needs, omega arith))  -- node-place-requires
-    (λ c. omega arith)  -- sub-widths
-    (λ c. omega arith)  -- part-widths-start
-    (λ c. omega arith)  -- part-widths-end
+    (λ c κs. search needs)  -- widths-requires
     (λ c κs. search needs)  -- node-count-requires
     (λ c κs. search needs)  -- table-count-requires
-    (λ c κs. (omega arith, (omega arith, let s = c .before .before .before .before .before .before in narrow-words (s .args .p .now) _ _ (s .pre .0 .whole) (s .pre .1) (c .before .before .before .before .node-place .ensures) refl)))  -- first-malformed-requires
-    (λ c. let s = c .before .before .before .before .before .before .before in nodes-found (s .args .p .now) _ _ _ _ _ _ (s .pre .0 .whole) (c .before .before .before .before .before .node-place .ensures) refl (c .before .before .before .node-count .ensures) (c .before .before .table-count .ensures) (c .first-malformed .ensures .0) (c .first-malformed .ensures .1)))  -- returns
+    (λ c κs.
+    let s = c .before .before .before .before .before .before in
+    (omega arith, (omega arith, narrow-words (s .args .p .now) _ (s .pre .1) (c .before .before .before .widths .ensures))))  -- first-malformed-requires
+    (λ c.
+    let s = c .before .before .before .before in
+    nodes-found (s .before .before .before .args .p .now) _ _ _ _ _ _ (s .before .node-place .ensures) (s .widths .ensures) (c .before .before .before .node-count .ensures)
+    (c .before .before .table-count .ensures) (c .first-malformed .ensures .0) (c .first-malformed .ensures .1)))  -- returns

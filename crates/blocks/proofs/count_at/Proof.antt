@@ -1,9 +1,9 @@
--- `checker::count_at` meets its contract. Assumes nothing.
+-- `blocks::count_at` meets its contract. Assumes nothing.
 use mathlib.Core.Path.{refl}
 use native.Mathlib.Omega.{arith}
 use borrow.Author.Needs.{needs}
-use Rattle.checker.proofs.count_at.Statement.{statement}
-use Rattle.checker.proofs.count_at.Tie as tie
+use Rattle.blocks.proofs.count_at.Statement.{statement}
+use Rattle.blocks.proofs.count_at.Tie as tie
 
 pub count-at-spec : {M : Type 1} → statement M
 count-at-spec = tie.close (tie.spec

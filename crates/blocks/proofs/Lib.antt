@@ -1,0 +1,2 @@
+-- Laws of the block's readers.
+pub mod Parts
