@@ -1,9 +1,10 @@
 /* driver [FILE..]: holds the library to cases in the format of tests/vectors, from the files or from standard input.
  *
- * Each slice is lent from memory of exactly its length that ends at an unreadable page. A case passes when the call returns what is
- * expected and leaves what was lent to be read as it was. A case that differs is printed, with its line; so is a line that is no case,
- * which has failed too. A line that begins with '#' names the cases after it. Cases of calls that the driver doesn't make yet are
- * counted apart and named. The last line is 'N passed, M failed'; the exit status is 0 only when something passed and nothing failed. */
+ * Each slice is lent so that an unreadable page begins where it ends; what stands before it, back to another such page, is filled. A case
+ * passes when the call returns what is expected and leaves what was lent to be read, and what stands before it, as it was. A case that
+ * differs is printed, with its line; so is a line that is no case, which has failed too. A line that begins with '#' names the cases
+ * after it. Cases of calls that the driver doesn't make yet are counted apart and named. The last line is 'N passed, M failed'; the exit
+ * status is 0 only when something passed and nothing failed. */
 #define _GNU_SOURCE
 #include <errno.h>
 #include <inttypes.h>
@@ -17,7 +18,7 @@
 
 #include "mpendozilu.h"
 
-enum { MOST_FIELDS = 7, UNWRITTEN = 0x5a5a5a5a };
+enum { MOST_FIELDS = 7, UNWRITTEN = 0x5a5a5a5a, FILL = 0xa5 };
 
 enum verdict { PASSED, FAILED, LATER };
 
@@ -26,6 +27,7 @@ static struct {
     const char *path;
     size_t line;
     char *name;
+    char fault[256];
 } here;
 
 struct words {
@@ -33,11 +35,11 @@ struct words {
     size_t count;
 };
 
-/* A copy of some words that ends where an unreadable page begins. */
+/* A copy of some words that ends where an unreadable page begins, and what fills its pages before it. */
 struct lent {
     uint32_t *at;
-    char *pages;
-    size_t size;
+    unsigned char *pages, *fill;
+    size_t size, filled;
 };
 
 /* What a call returns, and the three numbers. */
@@ -62,13 +64,11 @@ static void print_name(void)
     printf("%s%s\n", here.name == NULL ? "" : " ", here.name == NULL ? "" : here.name);
 }
 
-/* The library read or wrote where nothing was lent to it. */
+/* The library read or wrote where nothing was lent to it. A handler may not print, so the line stands ready. */
 static void caught(int signal)
 {
-    print_here();
-    printf("the call was ended by signal %d", signal);
-    print_name();
-    fflush(stdout);
+    (void)signal;
+    (void)!write(STDOUT_FILENO, here.fault, strlen(here.fault));
     _exit(1);
 }
 
@@ -79,12 +79,15 @@ static struct lent lend(const struct words *ws, bool empty_is_null)
     size_t bytes = ws->count * sizeof *ws->at;
     size_t readable = (bytes + page - 1) / page * page;
     struct lent l;
-    l.size = readable + page;
-    l.pages = mmap(NULL, l.size, PROT_READ | PROT_WRITE, MAP_PRIVATE | MAP_ANONYMOUS, -1, 0);
-    if (l.pages == MAP_FAILED || mprotect(l.pages + readable, page, PROT_NONE) != 0) {
+    l.size = page + readable + page;
+    l.pages = mmap(NULL, l.size, PROT_NONE, MAP_PRIVATE | MAP_ANONYMOUS, -1, 0);
+    if (l.pages == MAP_FAILED || mprotect(l.pages + page, readable, PROT_READ | PROT_WRITE) != 0) {
         stop("no pages");
     }
-    l.at = (uint32_t *)(void *)(l.pages + readable - bytes);
+    l.fill = l.pages + page;
+    l.filled = readable - bytes;
+    memset(l.fill, FILL, l.filled);
+    l.at = (uint32_t *)(void *)(l.fill + l.filled);
     memcpy(l.at, ws->at, bytes);
     if (ws->count == 0 && empty_is_null) {
         l.at = NULL;
@@ -92,10 +95,13 @@ static struct lent lend(const struct words *ws, bool empty_is_null)
     return l;
 }
 
-/* Takes the copy back, and says whether it is still what was lent. */
+/* Takes the copy back, and says whether it and what stands before it are as they were. */
 static bool take_back(struct lent l, const struct words *ws)
 {
     bool same = ws->count == 0 || memcmp(l.at, ws->at, ws->count * sizeof *ws->at) == 0;
+    for (size_t i = 0; i < l.filled; i++) {
+        same = same && l.fill[i] == FILL;
+    }
     if (munmap(l.pages, l.size) != 0) {
         stop("pages not taken back");
     }
@@ -282,6 +288,7 @@ static void judge_file(FILE *file, const char *path, size_t *verdicts)
             free(here.name);
             here.name = strdup(line);
         } else {
+            snprintf(here.fault, sizeof here.fault, "%s:%zu: the call was ended by a signal\n", here.path, here.line);
             verdicts[judge(line)]++;
         }
     }

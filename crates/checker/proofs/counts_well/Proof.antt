@@ -15,4 +15,12 @@ counts-well-spec = tie.close (tie.spec
     (λ c κs. search needs)  -- both-requires-2
     (λ c κs. search needs)  -- rule-count-requires
     (λ c κs. search needs)  -- both-requires-3
-    (λ c. rw (le-leb 5 _ (c .before .before .before .before .before .before .if1 .left)) (cc)))  -- returns-2
+    (λ c. rw (
+      le-leb 5 _ (c .before .before .before .before .before .before .if1 .left),
+      c .both3 .ensures,
+      c .before .rule-count .ensures,
+      c .before .before .both2 .ensures,
+      c .before .before .before .both .ensures,
+      c .before .before .before .before .before .limits-well .ensures,
+      c .before .before .before .before .length .ensures,
+    )))  -- returns-2

@@ -14,4 +14,10 @@ datum-well-spec = tie.close (tie.spec
     let s = c .before .before .before .before in
     omega (arith, c .before .parameter-width .ensures, parameter-narrow _ (s .args .action) (c .before .before .wide .result) (s .pre .1 .0 .at (s .args .action) (search needs)) (search needs)))  -- fits-requires
     (λ c κs. search needs)  -- used-or-zero-requires
-    (λ c. cc))  -- returns
+    (λ c. rw (
+      c .used-or-zero .ensures,
+      c .before .fits2 .ensures,
+      c .before .before .parameter-count .ensures,
+      c .before .before .before .parameter-width .ensures,
+      c .before .before .before .before .wide .ensures,
+    )))  -- returns

@@ -14,4 +14,10 @@ limits-well-spec = tie.close (tie.spec
     (λ c κs. search needs)  -- both-requires-2
     (λ c. search needs)  -- shared-slice-read-both-2
     (λ c κs. search needs)  -- both-requires-3
-    (λ c. cc))  -- returns
+    (λ c. rw (
+      c .both3 .ensures,
+      c .before .before .both2 .ensures,
+      c .before .before .before .before .both .ensures,
+      c .before .before .before .before .before .before .before .within .ensures,
+      c .before .before .before .before .before .within2 .ensures,
+    )))  -- returns

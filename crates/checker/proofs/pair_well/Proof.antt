@@ -22,6 +22,13 @@ pair-well-spec = tie.close (tie.spec
     (λ c κs. search needs)  -- both-requires
     (λ c κs. search needs)  -- both-requires-2
     (λ c. let s = c .before .before .before .before .before .before .before .before .before .before .before .before .before in
-    pair-used _ _ _ _ (s .pre .1 .1 .1 .1 .0) (s .args .j) (c .before .before .before .width .result) _ (omega arith) (cc) (cc))  -- returns
+    pair-used _ _ _ _ (s .pre .1 .1 .1 .1 .0) (s .args .j) (c .before .before .before .width .result) _ (omega arith) (cc) (rw (
+      c .both .ensures,
+      c .before .before .fits2 .ensures,
+      c .before .under .ensures,
+      c .before .before .before .before .before .before .before .before .mask .ensures,
+      c .before .before .before .before .before .before .before .before .before .value .ensures,
+      c .before .before .before .before .before .before .before .before .before .before .wide .ensures,
+    )))  -- returns
     (λ c. let s = c .before .before .before .before .before .before .before .before in
     pair-unused _ _ _ _ (s .pre .1 .1 .1 .1 .0) (s .args .j) _ (omega arith) (cc)))  -- returns-2
