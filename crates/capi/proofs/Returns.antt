@@ -1,9 +1,9 @@
 -- What a call for C returns is decided by its answer. Assumes nothing.
 use Prim.Native.Nat.{ℕ}
-use mathlib.Core.Path.{_≡_, refl, sym, _∙_, ap, subst}
+use mathlib.Core.Path.{_≡_, sym, _∙_, ap, subst}
 use mathlib.Core.List.{List, [], _∷_}
 use Rattle.model.specs.Lists.{word}
-use Rattle.model.specs.Answers.{Answer, done, refused, placeIn}
+use Rattle.model.specs.Answers.{Answer, done, numberIn, valuesIn}
 use Rattle.capi.specs.Returns.{Returns}
 
 -- two returns that meet the statement for one answer are equal
@@ -18,11 +18,8 @@ pub success : (values : List ℕ) {r first second third : ℕ}
 success values h = record { number = h .number; firstValue = h .firstValue; secondValue = h .secondValue; thirdValue = h .thirdValue }
 
 -- a refusal by its number and its place
-pub refusal : {answer : Answer (List ℕ)} {number place : ℕ}
-    → answer ≡ refused number (placeIn answer) → place ≡ placeIn answer → Returns answer number place 0 0
-refusal {answer} {number} {place} e h =
-    let told : answer ≡ refused number place = cc in
-    rw told (record { number = refl; firstValue = refl; secondValue = refl; thirdValue = refl })
+pub refusal : {answer : Answer (List ℕ)} {number place : ℕ} → number ≡ numberIn answer → valuesIn answer ≡ place ∷ [] → Returns answer number place 0 0
+refusal e h = record { number = e; firstValue = rw h; secondValue = rw h; thirdValue = rw h }
 
 -- what is returned for one case of an enum is returned for the answer that the enum tells
 pub told-by : {Enum : Type 0} (said : Enum → Answer (List ℕ)) {answer : Answer (List ℕ)} {told case : Enum} {r first second third : ℕ}

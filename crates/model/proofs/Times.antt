@@ -33,6 +33,12 @@ module _ (x : ℕ) where
   unfolding times
   times-other y e = rw (ne-eqb x y e)
 
+  pub among-one : (y : ℕ) → x ≡ y → among x (y ∷ []) ≡ true
+  among-one y e = rw (times-same y e)
+
+  pub among-not : (y : ℕ) → (x ≡ y → ⊥) → among x (y ∷ []) ≡ false
+  among-not y e = rw (times-other y e)
+
   -- in lists one after the other, at least as often as in one of them, and as in two of them
   module _ (f : ℕ → List ℕ) where
     pub times-joined : (n i : ℕ) → i < n → times x (f i) ≤ times x (joined f n)
@@ -44,7 +50,7 @@ module _ (x : ℕ) where
         go (inl e) rec = rw e (omega (arith, times-append (joined f n) (f n)))
         go (inr l) rec = omega (arith, times-append (joined f n) (f n), rec l)
 
-    pub times-joined-two : (n i j : ℕ) → i < j → j < n → times x (f i) + times x (f j) ≤ times x (joined f n)
+    times-joined-two : (n i j : ℕ) → i < j → j < n → times x (f i) + times x (f j) ≤ times x (joined f n)
     unfolding joined
     times-joined-two zero i j l h = absurd (not-suc-le-zero h)
     times-joined-two (suc n) i j l h = go (eq-or-lt-of-le (le-of-suc-le-suc h)) (times-joined-two n i j l)

@@ -6,7 +6,7 @@ use mathlib.Core.Bool.{Bool, true, false, false≢true}
 use mathlib.Core.List.{List, [], _∷_, _++_}
 use lib.Dec.{eqb, ltb}
 use lib.ListN.{getD}
-use borrow.Author.Tests.{eqb-true, lt-ltb, ltb-true}
+use borrow.Author.Tests.{eqb-true, ltb-true}
 use Rattle.model.specs.Lists.{if_then_else_, build, joined, each, times, among}
 use Rattle.model.specs.Blocks.{N, A, T, root, widths, pipelineNode, body}
 use Rattle.model.specs.Nodes.{isFormed, children, sortOf}
@@ -16,7 +16,7 @@ use Rattle.model.specs.declared.Sort.{Sort}
 use Rattle.model.specs.declared.Stage.{Stage}
 use Rattle.model.proofs.Lists.{made, build-at, each-joined}
 use Rattle.model.proofs.Every.{among-here, among-there, build-before}
-use Rattle.model.proofs.Times.{times-append, times-same, times-joined, joined-once, among-left, among-right, all-among}
+use Rattle.model.proofs.Times.{times-append, times-same, times-joined, joined-once, among-one, among-left, among-right, all-among}
 use Rattle.model.proofs.Children.{formed-children}
 use Rattle.model.proofs.Accepted.{rows}
 use Rattle.model.proofs.Decoded.{underStep, nodesUnder, under-at, under-all}
@@ -56,10 +56,8 @@ module _ (p : List ℕ) where
 
     pub one-body : (k m : ℕ) → k < A p → m < A p → x ≡ body p k → x ≡ body p m → k ≡ m
     one-body k m h l d e =
-        joined-once x bodyOf (A p) k m (omega (arith, times-uses x, eqb-true (times x (uses p)) 1 once)) h l (used k d) (used m e)
-      where
-        used : (k : ℕ) → x ≡ body p k → among x (bodyOf k) ≡ true
-        used k e = lt-ltb 0 (times x (bodyOf k)) (omega (arith, times-same x (body p k) e))
+        joined-once x bodyOf (A p) k m (omega (arith, times-uses x, eqb-true (times x (uses p)) 1 once)) h l (among-one x (body p k) d)
+        (among-one x (body p m) e)
 
 -- ---- the nodes under a node
 

@@ -47,10 +47,14 @@ refusalOf Refusal.True = refused 16 0
 refusalOf (Refusal.Condition at) = refused 17 at
 refusalOf (Refusal.Form at) = refused 18 at
 
--- a refusal's place
-abbrev pub placeIn : Answer (List ℕ) → ℕ
-placeIn (done xs) = 0
-placeIn (refused number place) = place
+-- an answer's number, 0 for a success, and its values: a refusal's is its place
+abbrev pub numberIn : Answer (List ℕ) → ℕ
+numberIn (done values) = 0
+numberIn (refused number place) = number
+
+abbrev pub valuesIn : Answer (List ℕ) → List ℕ
+valuesIn (done values) = values
+valuesIn (refused number place) = place ∷ []
 
 -- Load gives the two blocks' lengths
 abbrev pub loaded : Loaded → Answer (List ℕ)

@@ -1,8 +1,10 @@
-// The types that the contracts speak of. What each means is said in specs/, in document 01's words and order.
+// The types that the contracts speak of, and the number and the place of a refusal. What each means is said in specs/, in document 01's words
+// and order.
 
 use bits::Op;
 ghost use mathlib.Core.Path.{_≡_};
-ghost use Rattle.model.specs.Answers.{refused, refusalOf, placeIn};
+ghost use mathlib.Core.List.{[], _∷_};
+ghost use Rattle.model.specs.Answers.{refusalOf, numberIn, valuesIn};
 
 // The groups of records, in the order of the record file.
 pub enum Group {
@@ -122,7 +124,7 @@ pub enum Refusal {
 
 // A refusal's number in that table.
 pub fn number(r: Refusal) -> u64
-    ensures { λ n. ⌜ refusalOf r ≡ refused n (placeIn (refusalOf r)) ⌝ }
+    ensures { λ n. ⌜ n ≡ numberIn (refusalOf r) ⌝ }
 {
     match r {
         Refusal::File(_) => 1,
@@ -148,7 +150,7 @@ pub fn number(r: Refusal) -> u64
 
 // Its place: 0 where it names none.
 pub fn place(r: Refusal) -> u64
-    ensures { λ at. ⌜ at ≡ placeIn (refusalOf r) ⌝ }
+    ensures { λ at. ⌜ valuesIn (refusalOf r) ≡ at ∷ [] ⌝ }
 {
     match r {
         Refusal::Counts => 0,

@@ -14,17 +14,11 @@ use Rattle.model.specs.Nodes.{childIn}
 use Rattle.model.specs.Refusals.{underEach, standsUnder}
 use Rattle.model.specs.declared.Role.{Role}
 use Rattle.model.proofs.Accepted.{statement-below}
-use Rattle.model.proofs.Times.{times-same, times-other, among-append}
+use Rattle.model.proofs.Times.{among-one, among-not, among-append}
 use Rattle.model.proofs.Uses.{childrenOf, one-parent, no-body, one-body, under-self, children-below, under-child}
 use Rattle.uses.specs.Owners.{UsedOnce, Gives, Owned}
 
 -- ---- a byte, and more bytes
-
-among-one : (x y : ℕ) → x ≡ y → among x (y ∷ []) ≡ true
-among-one x y e = rw (times-same x y e)
-
-among-not : (x y : ℕ) → (x ≡ y → ⊥) → among x (y ∷ []) ≡ false
-among-not x y e = rw (times-other x y e)
 
 module _ (x owner : ℕ) (owners : List ℕ) where
   pub gives-one : Gives (x ∷ []) owner owners (set owners x owner)
