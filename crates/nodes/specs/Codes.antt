@@ -5,7 +5,7 @@ use mathlib.Core.Path.{_≡_}
 use mathlib.Core.List.{List}
 use lib.Dec.{eqb}
 use lib.ListN.{getD}
-use Rattle.model.specs.Lists.{if_then_else_, word, firstNot, orCount}
+use Rattle.model.specs.Lists.{if_then_else_, word, firstPlace}
 use Rattle.model.specs.Blocks.{nodeAt}
 use Rattle.model.specs.Nodes.{isFormed, sorts}
 use Rattle.model.specs.declared.Sort.{Sort}
@@ -29,4 +29,4 @@ sortsFrom stage ws from count widths tables = sorts stage widths tables (λ i. n
 
 abbrev pub firstMalformed : Stage → List ℕ → ℕ → ℕ → List ℕ → ℕ → ℕ
 firstMalformed stage ws from count widths tables =
-    orCount count (firstNot (λ i. isFormed (getD (sortsFrom stage ws from count widths tables) i Sort.Malformed)) count)
+    firstPlace (λ i. isFormed (getD (sortsFrom stage ws from count widths tables) i Sort.Malformed)) count
