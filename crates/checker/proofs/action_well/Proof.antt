@@ -16,4 +16,13 @@ action-well-spec = tie.close (tie.spec
     (λ c κs. search needs)  -- parameter-well-requires-2
     (λ c κs. search needs)  -- both-requires-2
     (λ c κs. search needs)  -- both-requires-3
-    (λ c. cc))  -- returns
+    (λ c. rw (
+      c .both3 .ensures,
+      c .before .before .before .before .both .ensures,
+      c .before .before .before .before .before .before .statement-at .ensures,
+      c .before .before .before .before .before .before .before .body .ensures,
+      c .before .before .before .before .before .parameter-count .ensures,
+      c .before .both2 .ensures,
+      c .before .before .before .parameter-well .ensures,
+      c .before .before .parameter-well2 .ensures,
+    )))  -- returns

@@ -11,4 +11,11 @@ key-well-spec = tie.close (tie.spec
     (λ c κs. search needs)  -- wide-requires-2
     (λ c κs. search needs)  -- field-count-requires
     (λ c κs. search needs)  -- used-or-zero-requires
-    (λ c. cc))  -- returns
+    (λ c. rw (
+      c .used-or-zero .ensures,
+      c .before .before .before .key-count .ensures,
+      c .before .before .wide2 .ensures,
+      c .before .field-count .ensures,
+      c .before .before .before .before .key .ensures,
+      c .before .before .before .before .before .wide .ensures,
+    )))  -- returns

@@ -14,4 +14,12 @@ keys-well-spec = tie.close (tie.spec
     (λ c κs. search needs)  -- both-requires-2
     (λ c κs. search needs)  -- key-well-requires-4
     (λ c κs. search needs)  -- both-requires-3
-    (λ c. cc))  -- returns
+    (λ c. rw (
+      c .both3 .ensures,
+      c .before .before .both2 .ensures,
+      c .before .before .before .before .both .ensures,
+      c .before .before .before .before .before .before .key-well .ensures,
+      c .before .before .before .before .before .key-well2 .ensures,
+      c .before .before .before .key-well3 .ensures,
+      c .before .key-well4 .ensures,
+    )))  -- returns

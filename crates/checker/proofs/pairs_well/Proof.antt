@@ -15,4 +15,12 @@ pairs-well-spec = tie.close (tie.spec
     (λ c κs. search needs)  -- both-requires-2
     (λ c κs. (search needs, (search needs, (search needs, (search needs, (search needs, (search needs, omega arith)))))))  -- pair-well-requires-4
     (λ c κs. search needs)  -- both-requires-3
-    (λ c. cc))  -- returns
+    (λ c. rw (
+      c .both3 .ensures,
+      c .before .before .both2 .ensures,
+      c .before .before .before .before .both .ensures,
+      c .before .before .before .before .before .before .pair-well .ensures,
+      c .before .before .before .before .before .pair-well2 .ensures,
+      c .before .before .before .pair-well3 .ensures,
+      c .before .pair-well4 .ensures,
+    )))  -- returns

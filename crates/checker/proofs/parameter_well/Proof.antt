@@ -10,4 +10,10 @@ parameter-well-spec = tie.close (tie.spec
     (λ c κs. search needs)  -- parameter-count-requires
     (λ c κs. search needs)  -- is-width-requires
     (λ c κs. search needs)  -- used-or-zero-requires
-    (λ c. cc))  -- returns
+    (λ c. rw (
+      c .used-or-zero .ensures,
+      c .before .is-width .ensures,
+      c .before .before .parameter-count .ensures,
+      c .before .before .before .parameter-width .ensures,
+      c .before .before .before .before .wide .ensures,
+    )))  -- returns

@@ -13,4 +13,11 @@ table-well-spec = tie.close (tie.spec
     (λ c κs. search needs)  -- default-place-requires
     (λ c κs. search needs)  -- call-well-requires
     (λ c κs. search needs)  -- both-requires-2
-    (λ c. cc))  -- returns
+    (λ c. rw (
+      c .both2 .ensures,
+      c .before .before .before .both .ensures,
+      c .before .before .before .before .before .key-count .ensures,
+      c .before .before .before .before .keys-well .ensures,
+      c .before .call-well .ensures,
+      c .before .before .default-place .ensures,
+    )))  -- returns
