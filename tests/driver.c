@@ -81,7 +81,7 @@ static struct lent lend(const struct words *ws, bool empty_is_null)
     struct lent l;
     l.size = page + readable + page;
     l.pages = mmap(NULL, l.size, PROT_NONE, MAP_PRIVATE | MAP_ANONYMOUS, -1, 0);
-    if (l.pages == MAP_FAILED || mprotect(l.pages + page, readable, PROT_READ | PROT_WRITE) != 0) {
+    if (l.pages == MAP_FAILED || (readable > 0 && mprotect(l.pages + page, readable, PROT_READ | PROT_WRITE) != 0)) {
         stop("no pages");
     }
     l.fill = l.pages + page;
