@@ -8,11 +8,12 @@ use lib.ListN.{getD, set, length}
 use borrow.Author.Tests.{eq-eqb, ltb-true}
 use Rattle.bits.specs.Width.{fits}
 use Rattle.model.specs.Lists.{if_then_else_}
-use Rattle.model.specs.Trees.{Val, Test, Stmt, Bits, bitsOf, truthOf, bitsIn}
+use Rattle.model.specs.Trees.{Val, Test, Stmt, bitsOf, truthOf, bitsIn}
 use Rattle.model.specs.Good.{GoodValue, GoodTest, widthOfValue}
 use Rattle.model.specs.Runs.{State, state, Outcome, passed, failed, blocked, refused, andThen, put, run}
 use Rattle.model.specs.Passive.{Passive, Equation, Vars, next, fresh, Form, form, JoinRule, passify, renamed, renamedTest, _then_}
 use Rattle.model.specs.Walk.{equal, goesOn, goesWrong}
+use Rattle.model.specs.declared.Bits.{Bits}
 use Rattle.model.proofs.Booleans.{true-both, or-left, or-right}
 use Rattle.model.proofs.Renaming.{getD-map, map-set}
 use Rattle.model.proofs.Fits.{sized}

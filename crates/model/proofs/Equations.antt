@@ -9,9 +9,10 @@ use lib.Dec.{eqb}
 use lib.ListN.{getD, length}
 use borrow.Author.Tests.{eqb-true, eq-eqb}
 use Rattle.model.specs.Lists.{if_then_else_}
-use Rattle.model.specs.Trees.{Bits, ofWidth}
+use Rattle.model.specs.Trees.{ofWidth}
 use Rattle.model.specs.Passive.{equations}
 use Rattle.model.specs.Walk.{equal}
+use Rattle.model.specs.declared.Bits.{Bits}
 use Rattle.model.proofs.Booleans.{both-true, true-both}
 use Rattle.model.proofs.GoodForms.{GoodEquations}
 

@@ -14,11 +14,12 @@ use Rattle.bits.proofs.Widths.{binary-fits, complement-fits, slice-fits, join-f
 use Rattle.model.specs.Lists.{within, word, times}
 use Rattle.model.specs.Blocks.{plainNode}
 use Rattle.model.specs.Nodes.{numberOf, kindOf, allowed, unusedZero, widthOf, isTest, isFormed, isWidth, isValue, alike, only, sortBy, sortOf}
-use Rattle.model.specs.Trees.{Bits, ofWidth, compareBits, connected, bitsIn}
+use Rattle.model.specs.Trees.{ofWidth, compareBits, connected, bitsIn}
 use Rattle.model.specs.Good.{Width, Within}
 use Rattle.model.specs.Condition.{nodeCount, bit, isOn, bitsBy, entryBits, evaluated, bitsWords}
 use Rattle.model.specs.Refusals.{entryLimit, evaluateRows, lateRow}
 use Rattle.model.specs.Demands.{Clear}
+use Rattle.model.specs.declared.Bits.{Bits}
 use Rattle.model.specs.declared.Node.{Node}
 use Rattle.model.specs.declared.Kind.{Kind}
 use Rattle.model.specs.declared.Stage.{Stage}

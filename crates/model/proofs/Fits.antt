@@ -6,8 +6,9 @@ use mathlib.Core.List.{List}
 use lib.ListN.{getD, length}
 use Rattle.bits.proofs.Widths.{binary-fits, complement-fits, slice-fits, join-fits}
 use Rattle.model.specs.Lists.{if_then_else_}
-use Rattle.model.specs.Trees.{Val, Bits, bitsOf, truthOf}
+use Rattle.model.specs.Trees.{Val, bitsOf, truthOf}
 use Rattle.model.specs.Good.{widthOfValue, GoodValue}
+use Rattle.model.specs.declared.Bits.{Bits}
 
 pub record Sized (x : Bits) (w : ℕ) : Type 0 where
   pub wide : x .width ≡ w

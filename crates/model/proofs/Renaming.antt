@@ -5,9 +5,10 @@ use mathlib.Core.Path.{_≡_, refl, sym, ap, ap₂, _∙_}
 use mathlib.Core.Bool.{not}
 use mathlib.Core.List.{List, [], _∷_, map}
 use lib.ListN.{getD, set, length}
-use Rattle.model.specs.Trees.{Val, Test, Bits, binaryBits, complementBits, sliceBits, joinBits, compareBits, connected, bitsOf, truthOf}
+use Rattle.model.specs.Trees.{Val, Test, binaryBits, complementBits, sliceBits, joinBits, compareBits, connected, bitsOf, truthOf}
 use Rattle.model.specs.Good.{widthOfValue, GoodValue, GoodTest}
 use Rattle.model.specs.Passive.{renamed, renamedTest}
+use Rattle.model.specs.declared.Bits.{Bits}
 
 pub getD-map : (f : ℕ → ℕ) (l : List ℕ) (i : ℕ) → i < length l → getD (map f l) i 0 ≡ f (getD l i 0)
 getD-map f [] i h = absurd (not-suc-le-zero h)

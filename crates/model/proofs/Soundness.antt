@@ -7,11 +7,12 @@ use mathlib.Core.Bool.{Bool, true, false, not, _&&_, false≢true}
 use mathlib.Core.List.{List, _++_, map}
 use lib.ListN.{getD, length}
 use borrow.Author.Tests.{eqb-true, lt-ltb, not-true}
-use Rattle.model.specs.Trees.{Val, Test, Stmt, Bits, bitsOf, truthOf}
+use Rattle.model.specs.Trees.{Val, Test, Stmt, bitsOf, truthOf}
 use Rattle.model.specs.Good.{GoodValue, GoodTest}
 use Rattle.model.specs.Runs.{State, Outcome, run}
 use Rattle.model.specs.Passive.{Passive, Origin, Vars, next, beside, Form, form, JoinRule, joinedVars, join, passify, renamed, renamedTest, equations, _then_}
 use Rattle.model.specs.Walk.{entry, equal, goesOn, goesWrong, walkOn, walkWrong}
+use Rattle.model.specs.declared.Bits.{Bits}
 use Rattle.model.proofs.Booleans.{both-true, by-side}
 use Rattle.model.proofs.Renaming.{map-set}
 use Rattle.model.proofs.Variables.{Front, Ready}

@@ -10,7 +10,7 @@ use denote.Ref.{RefT}
 use Rattle.model.specs.Lists.{if_then_else_}
 use Rattle.model.specs.Blocks.{F, T, words}
 use Rattle.model.specs.Files.{Held, whole, fault, held, pipelineOf, rulesOf}
-use Rattle.model.specs.Trees.{Bits, bitsIn}
+use Rattle.model.specs.Trees.{bitsIn}
 use Rattle.model.specs.Tables.{hit, partOf, partWords}
 use Rattle.model.specs.Runs.{State, Outcome, packetWidths, pipelineRun}
 use Rattle.model.specs.Emit.{Emitted, passiveForm, formLimit}
@@ -19,6 +19,7 @@ use Rattle.model.specs.Walk.{packetOf, choicesOf}
 use Rattle.model.specs.Answers as said
 use Rattle.model.specs.Answers.{Answer, done, refused, after, told, yesOrNo}
 use Rattle.model.specs.Refusals.{Row, judge, once, room, checkRows, packetRows, valuationRows, conditionRows, evaluateRows, lateRow}
+use Rattle.model.specs.declared.Bits.{Bits}
 use Rattle.model.specs.declared.Node.{Node}
 use Rattle.model.specs.declared.Part.{Part}
 use Rattle.model.specs.declared.Loaded.{Loaded}

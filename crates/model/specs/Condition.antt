@@ -8,7 +8,8 @@ use lib.ListN.{length, getD}
 use Rattle.model.specs.Lists.{if_then_else_, build, joined}
 use Rattle.model.specs.Blocks.{node, plainNode, size}
 use Rattle.model.specs.Nodes.{kindOf, renumbered}
-use Rattle.model.specs.Trees.{Bits, ofWidth, binaryBits, complementBits, sliceBits, joinBits, compareBits, connected}
+use Rattle.model.specs.Trees.{ofWidth, binaryBits, complementBits, sliceBits, joinBits, compareBits, connected}
+use Rattle.model.specs.declared.Bits.{Bits}
 use Rattle.model.specs.declared.Group.{Group}
 use Rattle.model.specs.declared.Node.{Node}
 use Rattle.model.specs.declared.Kind.{Kind}

@@ -10,6 +10,7 @@ use Rattle.bits.specs.declared.Op.{Op}
 use Rattle.model.specs.Lists.{if_then_else_, build}
 use Rattle.model.specs.Blocks.{Call, N, root, pipelineNode, body}
 use Rattle.model.specs.Nodes.{kindOf}
+use Rattle.model.specs.declared.Bits.{Bits}
 use Rattle.model.specs.declared.Node.{Node}
 use Rattle.model.specs.declared.Comparison.{Comparison}
 use Rattle.model.specs.declared.Connective.{Connective}
@@ -122,11 +123,7 @@ program p = asStatement (tree p noData (root p))
 abbrev pub called : List ℕ → Call → Stmt
 called p c = asStatement (tree p (c .«data») (body p (c .action)))
 
--- Bits: a width and a number.
-pub record Bits : Type 0 where
-  pub width : ℕ
-  pub number : ℕ
-
+-- bits of a width
 abbrev pub ofWidth : ℕ → ℕ → Bits
 ofWidth w n = record { width = w; number = n }
 

@@ -6,9 +6,10 @@ use mathlib.Core.List.{List, [], _∷_, _++_}
 use lib.Dec.{eqb}
 use lib.ListN.{take, length}
 use Rattle.model.specs.Lists.{if_then_else_}
-use Rattle.model.specs.Trees.{Bits, truthOf, bitsIn}
+use Rattle.model.specs.Trees.{truthOf, bitsIn}
 use Rattle.model.specs.Runs.{packetWidths}
 use Rattle.model.specs.Passive.{Passive, Origin, Equation, _then_, passive}
+use Rattle.model.specs.declared.Bits.{Bits}
 
 -- a walked choice of the pipeline gives 0 or 1 for its side, a chain's choice nothing
 abbrev pub entry : Origin → ℕ → List ℕ

@@ -87,6 +87,12 @@ pub enum Sort {
     Statement,
 }
 
+// Bits: a width and a number.
+pub struct Bits {
+    pub width: u32,
+    pub number: u32,
+}
+
 // Which rule of a table hits.
 pub enum Hit {
     Rule(usize),
