@@ -1,15 +1,17 @@
 /* Mpendozilu for C99 and C++: packet pipelines of a programmable switch, held to their rules.
  *
- * A block is lent as 32-bit words: a pointer to the first, and how many there are. A call reads them in place, changes nothing but what
- * it says that it writes, and keeps no pointer. Where the number of words is 0 the pointer is not looked at and may be NULL; any other
- * pointer leads to that many words, aligned as a uint32_t is. A call asks nothing of the words themselves: it refuses what is wrong.
+ * Blocks, packets and choice lists are lent as 32-bit words: a pointer to the first, and how many there are. A call reads them in place,
+ * changes nothing but what it says that it writes, and keeps no pointer. Where the number of words is 0 the pointer is not looked at and may
+ * be NULL; any other pointer leads to that many words, aligned as a uint32_t is. A call asks nothing of the words themselves: it refuses
+ * what is wrong. An area that a call may write is one whose pointer isn't const; it lies apart from what else is lent. What is lent to be
+ * read may overlap.
  *
  * A call returns 0 on success and otherwise the number of its refusal. The three numbers lie apart from each other and from what else is
  * lent, and none of the pointers to them is NULL. On success they hold what the call names. After a refusal the first is the place. What
  * is not named is written 0, so no call leaves one of them as it was.
  *
- * Calls keep nothing between them, so several threads may call at once, as long as nobody writes what is lent until its call returns.
- * The library is compiled for Linux on x86-64.
+ * Calls keep nothing between them, so several threads may call at once, as long as nobody writes what is lent, or reads an area that may
+ * be written, until its call returns. The library is compiled for Linux on x86-64.
  *
  * The numbers, and the place that each is given with:
  *
@@ -34,7 +36,7 @@
  *     17  malformed condition                               entry; 0 for length
  *     18  malformed passive form                            node; 0 for length
  *
- * A number is given exactly when it is the first that applies: smallest number, smallest place next.
+ * A number is given exactly when it is the first that applies: smallest number, smallest place next, where the call names no other order.
  */
 #ifndef MPENDOZILU_H
 #define MPENDOZILU_H
@@ -51,6 +53,39 @@ extern "C" {
 uint64_t mz_check(const uint32_t *pipeline, size_t pipeline_length,
                   const uint32_t *rules, size_t rules_length,
                   uint64_t *first, uint64_t *second, uint64_t *third);
+
+/* Lookup: where the action and the two data words stand that the table runs for the packet: those of its first rule that matches, or of
+ * its default. The packet has F values.
+ * It refuses nothing. The answer is empty exactly when Check refuses the blocks (2 to 10), the packet is refused (11), or the table's
+ * number isn't below T; the first number is then 0, and so are the others. Else the first is 1 where the three words stand in the rule
+ * block and 2 where they stand in the pipeline block, the second is how many words of that block stand before them, and the third is 0. */
+uint64_t mz_lookup(const uint32_t *pipeline, size_t pipeline_length,
+                   const uint32_t *rules, size_t rules_length,
+                   const uint32_t *packet, size_t packet_length,
+                   uint32_t table,
+                   uint64_t *first, uint64_t *second, uint64_t *third);
+
+/* Run: how the pipeline ends on the packet, with the choice list for its choices and havocs. Entries may be left over, and those that the
+ * run doesn't come to are not looked at.
+ * Refusals, the first of this order: 2 to 10 as Check; 11; 12 where the end area has fewer than F words; then 14 or 15, whichever the run
+ * meets first. On success the first number is 0 for a run that passed, 1 for a blocked one and 2 for a failed one, the second is the node
+ * that blocked or failed it, 0 where it passed, and the third is the entries used. The packet as it then is stands in the first F words
+ * of the end area; its other words stay, and after a refusal all of them. */
+uint64_t mz_run(const uint32_t *pipeline, size_t pipeline_length,
+                const uint32_t *rules, size_t rules_length,
+                const uint32_t *packet, size_t packet_length,
+                const uint32_t *choices, size_t choices_length,
+                uint32_t *end, size_t end_length,
+                uint64_t *first, uint64_t *second, uint64_t *third);
+
+/* Confirm: whether the packet and the choice list are a counterexample, which they are when the run fails and uses the whole list.
+ * Refusals, the first of this order: 2 to 10 as Check; 11; then 14 or 15, whichever the run meets first. On success the first number is 1
+ * for yes and 0 for no, and the others are 0. */
+uint64_t mz_confirm(const uint32_t *pipeline, size_t pipeline_length,
+                    const uint32_t *rules, size_t rules_length,
+                    const uint32_t *packet, size_t packet_length,
+                    const uint32_t *choices, size_t choices_length,
+                    uint64_t *first, uint64_t *second, uint64_t *third);
 
 #ifdef __cplusplus
 }

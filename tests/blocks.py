@@ -1,4 +1,4 @@
-"""Pipeline blocks and rule blocks for the tests, made piece by piece, well formed or not."""
+"""Pipeline blocks and rule blocks for the tests, made piece by piece, well formed or not, and a case in the format of tests/vectors."""
 
 HUGE = 4294967295
 
@@ -50,3 +50,33 @@ def rule(table, pairs, action, *values):
     """A rule: its pairs are value, then mask."""
     flat = [word for pair in pairs for word in pair]
     return [table, *flat, *[0] * (8 - len(flat)), action, *values, *[0] * (2 - len(values))]
+
+
+def field_of(part):
+    """A field of a case: a number or an answer, a pipeline, rules, or words."""
+    if isinstance(part, (int, str)):
+        return str(part)
+    words = part.words() if isinstance(part, Pipeline) else part
+    return ' '.join(str(word) for one in words for word in (one if isinstance(one, list) else [one]))
+
+
+def case(name, call, *parts):
+    """Prints the case: its arguments, then its answer. A line that begins with '#' names the case after it."""
+    print(f'# {name}')
+    print(' ; '.join([call, *map(field_of, parts)]))
+
+
+def small():
+    """One field of 8 bits and a skip."""
+    p = Pipeline(8)
+    p.root = p.node(SKIP)
+    return p
+
+
+def complements(count):
+    """A value far below: so many complements, one over the other, over a field of 8 bits."""
+    p = Pipeline(8)
+    value = p.node(FIELD, 0)
+    for _ in range(count):
+        value = p.node(COMPLEMENT, value)
+    return p, value

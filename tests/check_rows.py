@@ -9,16 +9,7 @@ from blocks import *
 
 
 def row(name, pipeline, rules, answer):
-    words = pipeline.words() if isinstance(pipeline, Pipeline) else pipeline
-    print(f'# {name}')
-    print(f'check ; {" ".join(map(str, words))} ; {" ".join(str(word) for one in rules for word in one)} ; {answer}')
-
-
-def small():
-    """One field of 8 bits and a skip."""
-    p = Pipeline(8)
-    p.root = p.node(SKIP)
-    return p
+    case(name, 'check', pipeline, rules, answer)
 
 
 # 2: counts and lengths
@@ -39,15 +30,6 @@ def balanced(count):
         free.append(p.node(SEQUENCE, free.pop(0), free.pop(0)))
     p.root = free[0]
     return p
-
-
-def complements(count):
-    """A value far below: so many complements, one over the other, over a field of 8 bits."""
-    p = Pipeline(8)
-    value = p.node(FIELD, 0)
-    for _ in range(count):
-        value = p.node(COMPLEMENT, value)
-    return p, value
 
 
 def node_counts():

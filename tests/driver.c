@@ -1,10 +1,10 @@
 /* driver [FILE..]: holds the library to cases in the format of tests/vectors, from the files or from standard input.
  *
  * Each slice is lent so that an unreadable page begins where it ends; what stands before it, back to another such page, is filled. A case
- * passes when the call returns what is expected and leaves what was lent to be read, and what stands before it, as it was. A case that
- * differs is printed, with its line; so is a line that is no case, which has failed too. A line that begins with '#' names the cases
- * after it. Cases of calls that the driver doesn't make yet are counted apart and named. The last line is 'N passed, M failed'; the exit
- * status is 0 only when something passed and nothing failed. */
+ * passes when the call returns what is expected, writes what it has to at the start of an area, and leaves all other words that were lent,
+ * and what stands before them, as they were. A case that differs is printed, with its line; so is a line that is no case, which has failed
+ * too. A line that begins with '#' names the cases after it. Cases of calls that the driver doesn't make yet are counted apart and named.
+ * The last line is 'N passed, M failed'; the exit status is 0 only when something passed and nothing failed. */
 #define _GNU_SOURCE
 #include <errno.h>
 #include <inttypes.h>
@@ -18,7 +18,7 @@
 
 #include "mpendozilu.h"
 
-enum { MOST_FIELDS = 7, UNWRITTEN = 0x5a5a5a5a, FILL = 0xa5 };
+enum { MOST_FIELDS = 7, MOST_SLICES = 5, MOST_ROOM = 1 << 20, CALL_WORDS = 3, UNWRITTEN = 0x5a5a5a5a, FILL = 0xa5 };
 
 enum verdict { PASSED, FAILED, LATER };
 
@@ -42,9 +42,23 @@ struct lent {
     size_t size, filled;
 };
 
+/* The words that a case lends, and what the call has to write over their start: nothing where they are lent to be read. */
+struct slice {
+    struct words words, written;
+    struct lent copy;
+};
+
 /* What a call returns, and the three numbers. */
 struct answer {
     uint64_t number, first, second, third;
+};
+
+/* A case: its slices in the order of the call's arguments, the number among them, and what is expected. */
+struct trial {
+    struct slice slices[MOST_SLICES];
+    size_t count;
+    uint32_t number;
+    struct answer expected;
 };
 
 static void stop(const char *why)
@@ -95,14 +109,17 @@ static struct lent lend(const struct words *ws, bool empty_is_null)
     return l;
 }
 
-/* Takes the copy back, and says whether it and what stands before it are as they were. */
-static bool take_back(struct lent l, const struct words *ws)
+/* Takes the copy back, and says whether it is as it has to be and what stands before it as it was. */
+static bool take_back(const struct slice *s)
 {
-    bool same = ws->count == 0 || memcmp(l.at, ws->at, ws->count * sizeof *ws->at) == 0;
-    for (size_t i = 0; i < l.filled; i++) {
-        same = same && l.fill[i] == FILL;
+    bool same = true;
+    for (size_t i = 0; i < s->words.count; i++) {
+        same = same && s->copy.at[i] == (i < s->written.count ? s->written.at[i] : s->words.at[i]);
     }
-    if (munmap(l.pages, l.size) != 0) {
+    for (size_t i = 0; i < s->copy.filled; i++) {
+        same = same && s->copy.fill[i] == FILL;
+    }
+    if (munmap(s->copy.pages, s->copy.size) != 0) {
         stop("pages not taken back");
     }
     return same;
@@ -124,14 +141,21 @@ static bool read_number(char **text, uint32_t *number)
     return true;
 }
 
+/* Room for some words and one more. The caller frees it. */
+static uint32_t *room_for(size_t count)
+{
+    uint32_t *at = calloc(count + 1, sizeof *at);
+    if (at == NULL) {
+        stop("no memory");
+    }
+    return at;
+}
+
 /* Reads words that are separated by single spaces; none is a list too. The caller frees them. */
 static bool read_words(char *text, struct words *ws)
 {
     ws->count = 0;
-    ws->at = calloc(strlen(text) + 1, sizeof *ws->at);
-    if (ws->at == NULL) {
-        stop("no memory");
-    }
+    ws->at = room_for(strlen(text));
     if (*text == '\0') {
         return true;
     }
@@ -146,16 +170,42 @@ static bool read_words(char *text, struct words *ws)
     return false;
 }
 
+/* Reads an area's room, and fills the area so that no two of its words are alike. The caller frees it. */
+static bool read_room(char *text, struct words *ws)
+{
+    uint32_t room;
+    if (!read_number(&text, &room) || *text != '\0' || room > MOST_ROOM) {
+        return false;
+    }
+    ws->at = room_for(room);
+    for (ws->count = 0; ws->count < room; ws->count++) {
+        ws->at[ws->count] = UNWRITTEN + (uint32_t)ws->count;
+    }
+    return true;
+}
+
+/* Whether the text begins with the word; *text is then what follows it. */
+static bool read_word(char **text, const char *word)
+{
+    size_t length = strlen(word);
+    if (strncmp(*text, word, length) != 0) {
+        return false;
+    }
+    *text += length;
+    return true;
+}
+
+/* Reads two numbers with a space between them. */
+static bool read_two(char **text, uint32_t *a, uint32_t *b)
+{
+    return read_number(text, a) && read_word(text, " ") && read_number(text, b);
+}
+
 /* Reads 'refused NUMBER PLACE'. */
 static bool read_refusal(char *text, struct answer *a)
 {
-    static const char word[] = "refused ";
     uint32_t number, place;
-    if (strncmp(text, word, strlen(word)) != 0) {
-        return false;
-    }
-    text += strlen(word);
-    if (!read_number(&text, &number) || *text++ != ' ' || !read_number(&text, &place) || *text != '\0') {
+    if (!read_word(&text, "refused ") || !read_two(&text, &number, &place) || *text != '\0') {
         return false;
     }
     *a = (struct answer){number, place, 0, 0};
@@ -175,69 +225,177 @@ static void print_answer(const char *which, const struct answer *a)
     printf("%s %" PRIu64 " with %" PRIu64 " %" PRIu64 " %" PRIu64, which, a->number, a->first, a->second, a->third);
 }
 
-/* Whether the call gave what was expected and left what was lent to be read as it was. */
-static enum verdict compare(const struct answer *expected, const struct answer *got, bool unchanged)
+/* Whether the call gave what was expected and left what was lent as it has to be. */
+static enum verdict compare(const struct answer *expected, const struct answer *got, bool areas_same)
 {
     bool same = expected->number == got->number && expected->first == got->first && expected->second == got->second
         && expected->third == got->third;
-    if (same && unchanged) {
+    if (same && areas_same) {
         return PASSED;
     }
     print_here();
     print_answer("expected", expected);
     print_answer(", got", got);
-    printf("%s", unchanged ? "" : ", and words that were lent are changed");
+    printf("%s", areas_same ? "" : ", and words that were lent are not as they have to be");
     print_name();
     return FAILED;
 }
 
-static enum verdict call_check(const struct words *pipeline, const struct words *rules, bool empty_is_null, const struct answer *expected)
+/* Makes the call, and judges what it gave. */
+static enum verdict hold(struct trial *t, uint64_t (*call)(const struct trial *, struct answer *), bool empty_is_null)
 {
-    struct lent p = lend(pipeline, empty_is_null);
-    struct lent r = lend(rules, empty_is_null);
     struct answer got = {UNWRITTEN, UNWRITTEN, UNWRITTEN, UNWRITTEN};
-    got.number = mz_check(p.at, pipeline->count, r.at, rules->count, &got.first, &got.second, &got.third);
-    bool pipeline_same = take_back(p, pipeline);
-    bool rules_same = take_back(r, rules);
-    return compare(expected, &got, pipeline_same && rules_same);
-}
-
-/* check ; pipeline ; rules ; answer */
-static enum verdict judge_check(char **fields, size_t count)
-{
-    struct words pipeline = {NULL, 0}, rules = {NULL, 0};
-    struct answer expected = {0, 0, 0, 0};
-    enum verdict v;
-    bool readable = count == 4 && read_words(fields[1], &pipeline) && read_words(fields[2], &rules)
-        && (strcmp(fields[3], "ok") == 0 || read_refusal(fields[3], &expected));
-    v = readable ? call_check(&pipeline, &rules, false, &expected) : malformed();
-    if (v == PASSED && (pipeline.count == 0 || rules.count == 0)) {
-        v = call_check(&pipeline, &rules, true, &expected);
+    bool same = true;
+    for (size_t i = 0; i < t->count; i++) {
+        t->slices[i].copy = lend(&t->slices[i].words, empty_is_null);
     }
-    free(pipeline.at);
-    free(rules.at);
-    return v;
+    got.number = call(t, &got);
+    for (size_t i = 0; i < t->count; i++) {
+        same = take_back(&t->slices[i]) && same;
+    }
+    return compare(&t->expected, &got, same);
 }
 
-/* The calls of the format. Those with no function are left for later. */
-static struct {
-    const char *name;
-    enum verdict (*judge)(char **fields, size_t count);
+/* Check: ok */
+static bool answers_ok(char *text, struct trial *t)
+{
+    (void)t;
+    return strcmp(text, "ok") == 0;
+}
+
+static uint64_t call_check(const struct trial *t, struct answer *got)
+{
+    const struct slice *s = t->slices;
+    return mz_check(s[0].copy.at, s[0].words.count, s[1].copy.at, s[1].words.count, &got->first, &got->second, &got->third);
+}
+
+/* Lookup: empty; part pipeline OFFSET; part rules OFFSET. The three words stand in that block. */
+static bool answers_part(char *text, struct trial *t)
+{
+    static const char *const parts[] = {"part pipeline ", "part rules "};
+    uint32_t offset = 0;
+    for (size_t i = 0; i < 2; i++) {
+        if (read_word(&text, parts[i])) {
+            bool readable = read_number(&text, &offset) && *text == '\0';
+            t->expected = (struct answer){0, 2 - i, offset, 0};
+            return readable && (size_t)offset + CALL_WORDS <= t->slices[i].words.count;
+        }
+    }
+    return strcmp(text, "empty") == 0;
+}
+
+static uint64_t call_lookup(const struct trial *t, struct answer *got)
+{
+    const struct slice *s = t->slices;
+    return mz_lookup(s[0].copy.at, s[0].words.count, s[1].copy.at, s[1].words.count, s[2].copy.at, s[2].words.count, t->number,
+                     &got->first, &got->second, &got->third);
+}
+
+/* Run: passed 0 USED : packet; blocked NODE USED : packet; failed NODE USED : packet. The packet is written to the end area. */
+static bool answers_ending(char *text, struct trial *t)
+{
+    static const char *const endings[] = {"passed ", "blocked ", "failed "};
+    struct slice *end = &t->slices[4];
+    uint32_t node, used;
+    size_t how = 0;
+    while (how < 3 && !read_word(&text, endings[how])) {
+        how++;
+    }
+    if (how == 3 || !read_two(&text, &node, &used) || !read_word(&text, " : ") || !read_words(text, &end->written)) {
+        return false;
+    }
+    t->expected = (struct answer){0, how, node, used};
+    return end->written.count <= end->words.count;
+}
+
+static uint64_t call_run(const struct trial *t, struct answer *got)
+{
+    const struct slice *s = t->slices;
+    return mz_run(s[0].copy.at, s[0].words.count, s[1].copy.at, s[1].words.count, s[2].copy.at, s[2].words.count, s[3].copy.at,
+                  s[3].words.count, s[4].copy.at, s[4].words.count, &got->first, &got->second, &got->third);
+}
+
+/* Confirm: yes; no */
+static bool answers_yes_or_no(char *text, struct trial *t)
+{
+    t->expected.first = strcmp(text, "yes") == 0;
+    return t->expected.first == 1 || strcmp(text, "no") == 0;
+}
+
+static uint64_t call_confirm(const struct trial *t, struct answer *got)
+{
+    const struct slice *s = t->slices;
+    return mz_confirm(s[0].copy.at, s[0].words.count, s[1].copy.at, s[1].words.count, s[2].copy.at, s[2].words.count, s[3].copy.at,
+                      s[3].words.count, &got->first, &got->second, &got->third);
+}
+
+/* The calls of the format, and for each argument a letter: a slice that is read (r), an area that may be written (w), a number (n). What
+ * the call answers with when it doesn't refuse is read by a function of its own. Calls with no function are left for later. */
+static struct call {
+    const char *name, *arguments;
+    bool (*answers)(char *text, struct trial *t);
+    uint64_t (*call)(const struct trial *t, struct answer *got);
     size_t later;
 } calls[] = {
-    {"load", NULL, 0},
-    {"check", judge_check, 0},
-    {"lookup", NULL, 0},
-    {"run", NULL, 0},
-    {"confirm", NULL, 0},
-    {"passify", NULL, 0},
-    {"condition", NULL, 0},
-    {"evaluate", NULL, 0},
-    {"extract", NULL, 0},
-    {"listing", NULL, 0},
+    {"load", NULL, NULL, NULL, 0},
+    {"check", "rr", answers_ok, call_check, 0},
+    {"lookup", "rrrn", answers_part, call_lookup, 0},
+    {"run", "rrrrw", answers_ending, call_run, 0},
+    {"confirm", "rrrr", answers_yes_or_no, call_confirm, 0},
+    {"passify", NULL, NULL, NULL, 0},
+    {"condition", NULL, NULL, NULL, 0},
+    {"evaluate", NULL, NULL, NULL, 0},
+    {"extract", NULL, NULL, NULL, 0},
+    {"listing", NULL, NULL, NULL, 0},
 };
 
 enum { CALLS = sizeof calls / sizeof calls[0] };
+
+static bool read_argument(char letter, char *text, struct trial *t)
+{
+    switch (letter) {
+    case 'n':
+        return read_number(&text, &t->number) && *text == '\0';
+    case 'w':
+        return read_room(text, &t->slices[t->count++].words);
+    default:
+        return read_words(text, &t->slices[t->count++].words);
+    }
+}
+
+/* Reads a case: the call's name, its arguments, its answer. */
+static bool read_trial(const struct call *c, char **fields, size_t count, struct trial *t)
+{
+    size_t arguments = strlen(c->arguments);
+    if (count != arguments + 2) {
+        return false;
+    }
+    for (size_t i = 0; i < arguments; i++) {
+        if (!read_argument(c->arguments[i], fields[i + 1], t)) {
+            return false;
+        }
+    }
+    return read_refusal(fields[count - 1], &t->expected) || c->answers(fields[count - 1], t);
+}
+
+/* Judges a case, and once more with NULL where one of its slices is empty. */
+static enum verdict judge_trial(const struct call *c, char **fields, size_t count)
+{
+    struct trial t = {0};
+    bool empty = false;
+    enum verdict v = read_trial(c, fields, count, &t) ? hold(&t, c->call, false) : malformed();
+    for (size_t i = 0; i < t.count; i++) {
+        empty = empty || t.slices[i].words.count == 0;
+    }
+    if (v == PASSED && empty) {
+        v = hold(&t, c->call, true);
+    }
+    for (size_t i = 0; i < t.count; i++) {
+        free(t.slices[i].words.at);
+        free(t.slices[i].written.at);
+    }
+    return v;
+}
 
 /* Cuts a line at each ';', with the space on either side, in place. Gives how many fields there are, or 0 where there are too many. */
 static size_t cut(char *line, char **fields)
@@ -262,8 +420,8 @@ static enum verdict judge(char *line)
         if (strcmp(fields[0], calls[i].name) != 0) {
             continue;
         }
-        if (calls[i].judge != NULL) {
-            return calls[i].judge(fields, count);
+        if (calls[i].call != NULL) {
+            return judge_trial(&calls[i], fields, count);
         }
         calls[i].later++;
         return LATER;

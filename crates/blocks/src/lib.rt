@@ -56,6 +56,14 @@ pub fn word(ws: &[u32], at: usize) -> u32
     ws[at]
 }
 
+// The word at a place, and 0 where there is none.
+pub fn word_or_zero(ws: &[u32], i: u32) -> u32
+    ensures { λ r. ⌜ r ≡ word (now (ws .entry)) i ⌝ }
+{
+    let at = i as usize;
+    if at < ws.len() { ws[at] } else { 0 }
+}
+
 pub fn field_count(p: &[u32]) -> usize
     requires { ⌜ Whole (now p) ⌝ }
     ensures { λ r. ⌜ r ≡ F (now (p .entry)) ⌝ }

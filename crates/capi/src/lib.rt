@@ -1,10 +1,15 @@
 // The calls of document 01 for C, and for every language that can call C. A call returns 0 or a refusal's number; three numbers that the
 // caller lends take the values of a success or the place of a refusal. No call asks anything of its arguments.
 use model::Checked;
+use model::Confirmed;
+use model::Part;
+use model::Ran;
 use model::Refusal;
+ghost use mathlib.Core.Path.{_≡_};
 ghost use mathlib.Core.List.{[], _∷_};
-ghost use Rattle.model.specs.Answers.{done, told, refusalOf};
-ghost use Rattle.model.specs.Calls.{check};
+ghost use lib.ListN.{length};
+ghost use Rattle.model.specs.Answers.{done, told, yesOrNo, refusalOf, lookedUp};
+ghost use Rattle.model.specs.Calls.{check, lookup, run, confirm, written};
 ghost use Rattle.capi.specs.Returns.{Returns};
 
 // A success with its values; a call that has fewer than three gives 0 for the others.
@@ -41,5 +46,71 @@ pub extern "C" fn mz_check(
     match checker::check(pipeline, rules) {
         Checked::Accepted => succeed(0, 0, 0, first, second, third),
         Checked::Refused(why) => refuse(why, first, second, third),
+    }
+}
+
+// Lookup, by the place of its part.
+#[no_mangle]
+pub extern "C" fn mz_lookup(
+    pipeline: &[u32],
+    rules: &[u32],
+    packet: &[u32],
+    table: u32,
+    first: &mut u64,
+    second: &mut u64,
+    third: &mut u64,
+) -> u64
+    ensures { λ r. ⌜ Returns (lookedUp (lookup (now (pipeline .entry)) (now (rules .entry)) (now (packet .entry)) table)) r (now (first .exit)) (now (second .exit)) (now (third .exit)) ⌝ }
+{
+    match runner::part_of(pipeline, rules, packet, table) {
+        Part::Empty => succeed(0, 0, 0, first, second, third),
+        Part::Rules(at) => succeed(1, at as u64, 0, first, second, third),
+        Part::Pipeline(at) => succeed(2, at as u64, 0, first, second, third),
+    }
+}
+
+// Run.
+#[no_mangle]
+pub extern "C" fn mz_run(
+    pipeline: &[u32],
+    rules: &[u32],
+    packet: &[u32],
+    choices: &[u32],
+    end: &mut [u32],
+    first: &mut u64,
+    second: &mut u64,
+    third: &mut u64,
+) -> u64
+    ensures { λ r. ⌜ Returns (told (λ e. e .how ∷ e .node ∷ e .state .used ∷ []) (run (now (pipeline .entry)) (now (rules .entry)) (now (packet .entry)) (now (choices .entry)) (length (now (end .entry))))) r
+        (now (first .exit)) (now (second .exit)) (now (third .exit)) ⌝ }
+    ensures { λ _. ⌜ now (end .exit) ≡ written (run (now (pipeline .entry)) (now (rules .entry)) (now (packet .entry)) (now (choices .entry)) (length (now (end .entry)))) (λ e. e .state .packet) (now (end .entry)) ⌝ }
+{
+    match runner::run(pipeline, rules, packet, choices, end) {
+        Ran::Passed { used } => succeed(0, 0, used as u64, first, second, third),
+        Ran::Blocked { node, used } => {
+            succeed(1, node as u64, used as u64, first, second, third)
+        }
+        Ran::Failed { node, used } => { succeed(2, node as u64, used as u64, first, second, third) }
+        Ran::Refused(why) => refuse(why, first, second, third),
+    }
+}
+
+// Confirm.
+#[no_mangle]
+pub extern "C" fn mz_confirm(
+    pipeline: &[u32],
+    rules: &[u32],
+    packet: &[u32],
+    choices: &[u32],
+    first: &mut u64,
+    second: &mut u64,
+    third: &mut u64,
+) -> u64
+    ensures { λ r. ⌜ Returns (told yesOrNo (confirm (now (pipeline .entry)) (now (rules .entry)) (now (packet .entry)) (now (choices .entry)))) r (now (first .exit)) (now (second .exit)) (now (third .exit)) ⌝ }
+{
+    match runner::confirm(pipeline, rules, packet, choices) {
+        Confirmed::Yes => succeed(1, 0, 0, first, second, third),
+        Confirmed::No => succeed(0, 0, 0, first, second, third),
+        Confirmed::Refused(why) => refuse(why, first, second, third),
     }
 }

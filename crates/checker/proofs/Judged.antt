@@ -36,10 +36,10 @@ module _ (p : List ℕ) (rows : List Row) (x : ℕ) (d : x ≡ root p) (u : Bool
   own = rw (← d) e
 
   pub root-refuses : not u ≡ true → refused 7 0 ≡ told (λ _. []) (judge (rootRow p (pipelineSorts p) ∷ rows))
-  root-refuses q = rw (once-stop 7 rows (isStatement (sortAt (pipelineSorts p) (root p))) u own (not-true u q))
+  root-refuses q = rw (once-stop 7 rows (λ _. isStatement (sortAt (pipelineSorts p) (root p))) (λ _. 0) u own (not-true u q))
 
   pub root-passes : (a : Answer (List ℕ)) → not u ≡ false → a ≡ told (λ _. []) (judge rows) → a ≡ told (λ _. []) (judge (rootRow p (pipelineSorts p) ∷ rows))
-  root-passes a q k = rw (once-on 7 rows (isStatement (sortAt (pipelineSorts p) (root p))) u own (not-false u q)) k
+  root-passes a q k = rw (once-on 7 rows (λ _. isStatement (sortAt (pipelineSorts p) (root p))) (λ _. 0) u own (not-false u q)) k
 
 pub all-pass : done [] ≡ told (λ _. []) (judge [])
 unfolding judge
@@ -91,13 +91,13 @@ module _ (p r : List ℕ) (u : Bool) (e : u ≡ countsWell p r) where
 
   pub counts-refuse : u ≡ false → Checks p r (Checked.Refused Refusal.Counts)
   unfolding check checkRows
-  counts-refuse q = record { answers = rw (once-stop 2 _ (countsWell p r) u e q) }
+  counts-refuse q = record { answers = rw (once-stop 2 _ (λ _. countsWell p r) (λ _. 0) u e q) }
 
   module _ (q : u ≡ true) (a : Checked) (k : checked a ≡ told (λ _. []) (judge (pipelineRows p))) where
     judged-on : (b : Answer (List ℕ)) → b ≡ told (λ _. []) (after (judge (pipelineRows p)) (λ _. judge (ruleRows p r)))
         → b ≡ told (λ _. []) (check p r)
     unfolding check checkRows pipelineRows sortedRows treeRows ruleRows
-    judged-on b h = rw (once-on 2 (pipelineRows p ++ ruleRows p r) (countsWell p r) u e q, judge-append (pipelineRows p) (ruleRows p r)) h
+    judged-on b h = rw (once-on 2 (pipelineRows p ++ ruleRows p r) (λ _. countsWell p r) (λ _. 0) u e q, judge-append (pipelineRows p) (ruleRows p r)) h
 
     pub pipeline-refuses : (refusal : Refusal) → a ≡ Checked.Refused refusal → Checks p r (Checked.Refused refusal)
     pipeline-refuses refusal d =

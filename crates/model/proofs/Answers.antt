@@ -152,6 +152,11 @@ pub record Speaks {A : Type 0} (said : A → Answer (List ℕ)) (made : List ℕ
   pub inverse : (x : A) → back made refusal (said x) ≡ x
   pub refuses : (r : Refusal) → said (refusal r) ≡ refusalOf r
 
+-- two answers that say the same are one
+pub one-said : {A : Type 0} {said : A → Answer (List ℕ)} {made : List ℕ → A} {refusal : Refusal → A} → Speaks said made refusal
+    → (x y : A) (b : Answer (List ℕ)) → said x ≡ b → said y ≡ b → x ≡ y
+one-said speaks = one-answer _ (back _ _) (speaks .inverse)
+
 module _ {A B : Type 0} {said : A → Answer (List ℕ)} {made : List ℕ → A} {refusal : Refusal → A} (speaks : Speaks said made refusal) where
   -- the answer of a call that gives m, told by its values
   abbrev pub theAnswer : (B → List ℕ) → Answer B → A
@@ -168,7 +173,7 @@ module _ {A B : Type 0} {said : A → Answer (List ℕ)} {made : List ℕ → A}
   pub call : (values : B → List ℕ) (m : Answer B) → Fine (Made values) m → One (λ (x : A). said x ≡ told values m)
   call values m h =
       let e = says values m h in
-      (theAnswer values m, e, λ y k. one-answer said (back made refusal) (speaks .inverse) y (theAnswer values m) (told values m) k e)
+      (theAnswer values m, e, λ y k. one-said speaks y (theAnswer values m) (told values m) k e)
 
 speaks-loaded : Speaks said.loaded (λ xs. Loaded.Blocks (word xs 0) (word xs 1)) Loaded.Refused
 speaks-loaded = record { inverse = inverse; refuses = λ r. refl }
@@ -191,7 +196,7 @@ endOf xs = getD (Ran.Passed (word xs 2) ∷ Ran.Blocked (word xs 1) (word xs 2) 
 abbrev choose : {A : Type 0} → A → A → List ℕ → A
 choose x y xs = getD (x ∷ y ∷ []) (word xs 0) x
 
-speaks-ran : Speaks said.ran endOf Ran.Refused
+pub speaks-ran : Speaks said.ran endOf Ran.Refused
 speaks-ran = record { inverse = inverse; refuses = λ r. refl }
   where
     inverse : (x : Ran) → back endOf Ran.Refused (said.ran x) ≡ x
@@ -200,7 +205,7 @@ speaks-ran = record { inverse = inverse; refuses = λ r. refl }
     inverse (Ran.Failed node used) = refl
     inverse (Ran.Refused r) = refusal-back _ _ r
 
-speaks-confirmed : Speaks said.confirmed (choose Confirmed.No Confirmed.Yes) Confirmed.Refused
+pub speaks-confirmed : Speaks said.confirmed (choose Confirmed.No Confirmed.Yes) Confirmed.Refused
 speaks-confirmed = record { inverse = inverse; refuses = λ r. refl }
   where
     inverse : (x : Confirmed) → back (choose Confirmed.No Confirmed.Yes) Confirmed.Refused (said.confirmed x) ≡ x

@@ -1,17 +1,18 @@
--- What the calls give for an accepted pipeline: Passify its form, Extract a counterexample, and Confirm its yes. Assumes nothing.
+-- What the calls give for an accepted pipeline: Run and Confirm its run's end, Passify its form, Extract a counterexample. Assumes nothing.
 use Prim.Native.Nat.{ℕ, _*_, _≤_}
-use mathlib.Core.Path.{_≡_}
+use mathlib.Core.Path.{_≡_, _∙_}
 use mathlib.Core.Bool.{true, not}
 use mathlib.Core.List.{List, [], _∷_, _++_}
 use lib.ListN.{length}
 use borrow.Author.Tests.{eq-eqb, le-leb}
+use Rattle.model.specs.Blocks.{F}
 use Rattle.model.specs.Good.{Within}
-use Rattle.model.specs.Runs.{packetWidths}
+use Rattle.model.specs.Runs.{packetWidths, pipelineRun}
 use Rattle.model.specs.Emit.{passiveForm, formLimit}
 use Rattle.model.specs.Walk.{choicesOf}
-use Rattle.model.specs.Answers.{done}
+use Rattle.model.specs.Answers.{done, after}
 use Rattle.model.specs.Refusals.{once, room, checkRows, packetRows, valuationRows}
-use Rattle.model.specs.Calls.{check, startRows, confirm, largeRow, passifyRows, passify, conditionTruth, extractRows, extract, witness}
+use Rattle.model.specs.Calls.{check, startRows, ended, runRows, run, failsWhole, confirm, largeRow, passifyRows, passify, conditionTruth, extractRows, extract, witness}
 use Rattle.model.specs.Demands.{WellBefore, Clear, Accepted, Small, variableWidths, Falsifies, FailsWith}
 use Rattle.model.proofs.Within.{within-well}
 use Rattle.model.proofs.Refusals.{clear, clear-judge, clear-append}
@@ -22,16 +23,25 @@ module _ (p r : List ℕ) (accepted : Accepted p r) where
   check-clear = clear (checkRows p r) accepted
 
   -- a run may start
-  start-clear : (packet : List ℕ) → Within (packetWidths p) packet → Clear (startRows p r packet)
+  pub start-clear : (packet : List ℕ) → Within (packetWidths p) packet → Clear (startRows p r packet)
   unfolding Clear
   start-clear packet within =
       let w = within-well (packetWidths p) packet within in
       clear-append (checkRows p r) (packetRows p packet) check-clear (λ j _. w .0, (λ j _. w .1 j, tt))
 
-  pub confirm-yes : (packet choices : List ℕ) → Within (packetWidths p) packet → FailsWith p r packet choices (length choices)
-      → confirm p r packet choices ≡ done true
-  unfolding confirm
-  confirm-yes packet choices within f = rw (clear-judge (startRows p r packet) (start-clear packet within), f .2, eq-eqb (f .1 .used) (length choices) (f .3))
+  module _ (packet choices : List ℕ) (within : Within (packetWidths p) packet) where
+    pub run-gives : (endRoom : ℕ) → F p ≤ endRoom → run p r packet choices endRoom ≡ ended (pipelineRun p r packet choices)
+    unfolding run Clear
+    run-gives endRoom h =
+        let clear = clear-append (startRows p r packet) (room (λ _. F p) endRoom ∷ []) (start-clear packet within) (λ j _. le-leb (F p) endRoom h, tt) in
+        rw (clear-judge (runRows p r packet endRoom) clear)
+
+    pub confirm-gives : confirm p r packet choices ≡ after (ended (pipelineRun p r packet choices)) (λ e. done (failsWhole choices e))
+    unfolding confirm
+    confirm-gives = rw (clear-judge (startRows p r packet) (start-clear packet within))
+
+    pub confirm-yes : FailsWith p r packet choices (length choices) → confirm p r packet choices ≡ done true
+    confirm-yes f = confirm-gives ∙ rw (f .2) (cc (eq-eqb (f .1 .used) (length choices) (f .3)))
 
   module _ (small : Small p r) where
     large-well : WellBefore (largeRow p r) 1

@@ -127,7 +127,7 @@ module _ (P : ℕ → Type 0) where
   all-each f zero h = tt
   all-each f (suc n) h = all-append (each f n) _ (all-each f n (λ i k. h i (omega arith))) (h n (omega arith), tt)
 
-  all-placed : (before : ℕ → ℕ → Bool) (i : ℕ) (js : List ℕ) → P i → All P js → All P (placed before i js)
+  pub all-placed : (before : ℕ → ℕ → Bool) (i : ℕ) (js : List ℕ) → P i → All P js → All P (placed before i js)
   unfolding placed
   all-placed before i [] h k = (h, tt)
   all-placed before i (j ∷ js) h k = go (before i j) (all-placed before i js h (k .1))

@@ -70,12 +70,12 @@ module _ (row : Row) (rows : List Row) (x n : ℕ) (e : x ≡ firstPlace (row .w
   judge-on h = rw (first-past (row .well) (row .count) x e (rw (← k) h))
 
 -- the same of a row that looks once
-module _ (number : ℕ) (rows : List Row) (b u : Bool) (e : u ≡ b) where
-  pub once-stop : u ≡ false → judge (once number (λ _. b) (λ _. 0) ∷ rows) ≡ refused number 0
+module _ (number : ℕ) (rows : List Row) (well : ℕ → Bool) (place : ℕ → ℕ) (u : Bool) (e : u ≡ well 0) where
+  pub once-stop : u ≡ false → judge (once number well place ∷ rows) ≡ refused number (place 0)
   unfolding judge firstNot
   once-stop q = rw (← e, q)
 
-  pub once-on : u ≡ true → judge (once number (λ _. b) (λ _. 0) ∷ rows) ≡ judge rows
+  pub once-on : u ≡ true → judge (once number well place ∷ rows) ≡ judge rows
   unfolding judge firstNot
   once-on q = rw (← e, q)
 

@@ -15,7 +15,7 @@ use Rattle.model.proofs.Every.{All}
 use Rattle.model.proofs.Accepted.{counts, OfTable, tried-below}
 
 -- what is found in a list has the property
-first-has : (P : ℕ → Type 0) (test : ℕ → Bool) (xs : List ℕ) (i : ℕ) → All P xs → firstThat test xs ≡ Hit.Rule i → P i
+pub first-has : (P : ℕ → Type 0) (test : ℕ → Bool) (xs : List ℕ) (i : ℕ) → All P xs → firstThat test xs ≡ Hit.Rule i → P i
 unfolding firstThat
 first-has P test [] i h e = let z : _≡_ {A = ℕ} 0 1 = cc in absurd (omega arith)
 first-has P test (x ∷ xs) i h e = go (test x) e (first-has P test xs i (h .1))

@@ -15,6 +15,7 @@ pub mod Within
 -- what Check accepts is well formed
 pub mod Refusals
 pub mod First
+pub mod Loops
 pub mod Sorts
 pub mod Decoded
 pub mod Accepted
@@ -50,6 +51,6 @@ pub mod EntrySorts
 pub mod Accepts
 pub mod WordsFit
 pub mod EvaluatedFits
--- demand 3
+-- demands 2 and 3
 pub mod CallsGive
 pub mod Demands

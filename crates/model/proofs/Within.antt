@@ -6,7 +6,7 @@ use mathlib.Core.Path.{_≡_, refl, ap}
 use mathlib.Core.Bool.{true}
 use mathlib.Core.List.{List, [], _∷_}
 use lib.Dec.{eqb}
-use lib.ListN.{getD, length}
+use lib.ListN.{getD, length, set}
 use lib.Pow.{pow-pos}
 use borrow.Author.Tests.{eq-eqb, lt-ltb}
 use Rattle.bits.specs.Width.{fits}
@@ -32,6 +32,14 @@ within-of [] [] e f = tt
 within-of [] (n ∷ ns) e f = let z : ⊥ = omega arith in absurd z
 within-of (w ∷ ws) [] e f = let z : ⊥ = omega arith in absurd z
 within-of (w ∷ ws) (n ∷ ns) e f = (f zero (zero-lt-suc _), within-of ws ns (suc-inj e) (λ i h. f (suc i) (suc-le-suc h)))
+
+-- a number that fits takes its place
+pub within-set : (ws ns : List ℕ) (f n : ℕ) → Within ws ns → n < 2 ^ getD ws f 0 → Within ws (set ns f n)
+within-set [] [] f n h k = tt
+within-set [] (m ∷ ns) f n h k = absurd h
+within-set (w ∷ ws) [] f n h k = absurd h
+within-set (w ∷ ws) (m ∷ ns) zero n h k = (k, h .1)
+within-set (w ∷ ws) (m ∷ ns) (suc f) n h k = (h .0, within-set ws ns f n (h .1) k)
 
 -- the tests of 11 and of 13
 pub within-well : (ws ns : List ℕ) → Within ws ns → (eqb (length ns) (length ws) ≡ true) × ((i : ℕ) → fits (word ws i) (word ns i) ≡ true)

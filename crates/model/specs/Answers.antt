@@ -6,6 +6,7 @@ use mathlib.Core.List.{List, [], _∷_}
 use Rattle.model.specs.declared.Refusal.{Refusal}
 use Rattle.model.specs.declared.Loaded.{Loaded}
 use Rattle.model.specs.declared.Checked.{Checked}
+use Rattle.model.specs.declared.Part.{Part}
 use Rattle.model.specs.declared.Ran.{Ran}
 use Rattle.model.specs.declared.Confirmed.{Confirmed}
 use Rattle.model.specs.declared.Passified.{Passified}
@@ -64,6 +65,12 @@ loaded (Loaded.Refused r) = refusalOf r
 abbrev pub checked : Checked → Answer (List ℕ)
 checked Checked.Accepted = done []
 checked (Checked.Refused r) = refusalOf r
+
+-- Lookup gives its part: 0 for the empty one, 1 for the rules and 2 for the pipeline with the place of its first word
+abbrev pub lookedUp : Part → Answer (List ℕ)
+lookedUp Part.Empty = done (0 ∷ [])
+lookedUp (Part.Rules at) = done (1 ∷ at ∷ [])
+lookedUp (Part.Pipeline at) = done (2 ∷ at ∷ [])
 
 -- Run gives 0 for passed, 1 for blocked, 2 for failed; the node; the entries used
 abbrev pub ran : Ran → Answer (List ℕ)

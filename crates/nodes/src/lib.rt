@@ -2,6 +2,7 @@
 // from the sorts of its children, and the first node of a list that is malformed.
 use bits::Op;
 use bits::both;
+use blocks::word_or_zero;
 use model::Comparison;
 use model::Connective;
 use model::Kind;
@@ -208,14 +209,6 @@ fn only(good: bool, code: u8) -> u8
     if good { code } else { MALFORMED }
 }
 
-// A field's or a variable's width, and 0 where there is none.
-fn width_at(widths: &[u32], i: u32) -> u32
-    ensures { λ r. ⌜ r ≡ word (now (widths .entry)) i ⌝ }
-{
-    let at = i as usize;
-    if at < widths.len() { widths[at] } else { 0 }
-}
-
 fn below(i: u32, count: usize) -> bool
     ensures { λ r. ⌜ r ≡ ltb i count ⌝ }
 {
@@ -285,7 +278,10 @@ fn sort_by(widths: &[u32], tables: usize, kind: Kind, n: Node, s: Three) -> u8
     let c = s.c;
     match kind {
         Kind::Constant => constant_sort(n.a, n.b),
-        Kind::Field => only(below(n.a, widths.len()), value_code(width_at(widths, n.a))),
+        Kind::Field => only(
+            below(n.a, widths.len()),
+            value_code(word_or_zero(widths, n.a)),
+        ),
         Kind::Parameter => parameter_sort(n.b),
         Kind::Binary(_) => only(alike(a, b), a),
         Kind::Complement => only(is_value(a), a),
@@ -300,7 +296,7 @@ fn sort_by(widths: &[u32], tables: usize, kind: Kind, n: Node, s: Three) -> u8
         Kind::Assign => only(
             both(
                 below(n.a, widths.len()),
-                alike(b, value_code(width_at(widths, n.a))),
+                alike(b, value_code(word_or_zero(widths, n.a))),
             ),
             STATEMENT,
         ),

@@ -1,0 +1,16 @@
+// Writing into an area that is lent: the words go to its start, and the words past them stay.
+ghost use mathlib.Core.Path.{_≡_};
+ghost use Prim.Native.Nat.{_≤_};
+ghost use lib.ListN.{length};
+ghost use Rattle.model.specs.Calls.{over};
+
+pub fn put(ws: &[u32], area: &mut [u32])
+    requires { ⌜ length (now ws) ≤ length (now area) ⌝ }
+    ensures { λ _. ⌜ now (area .exit) ≡ over (now (ws .entry)) (now (area .entry)) ⌝ }
+{
+    let mut i = 0;
+    while i < ws.len() {
+        area[i] = ws[i];
+        i += 1;
+    }
+}

@@ -1,0 +1,13 @@
+-- `blocks::word_or_zero` meets its contract. Assumes nothing.
+use mathlib.Core.Path.{sym}
+use lib.ListN.{List·getD-eq-default}
+use borrow.Author.Needs.{needs}
+use Rattle.blocks.proofs.word_or_zero.Statement.{statement}
+use Rattle.blocks.proofs.word_or_zero.Tie as tie
+
+pub word-or-zero-spec : {M : Type 1} → statement M
+word-or-zero-spec = tie.close (tie.spec
+    (λ c. search needs)  -- mul-result
+    (λ c. search needs)  -- shared-slice-read-result
+    (λ c. search needs)  -- returns
+    (λ c. sym (List·getD-eq-default (c .before .args .ws .now) 0 (c .if1 .left))))  -- returns-2

@@ -1,0 +1,14 @@
+-- `runner::next_side` meets its contract. Assumes nothing.
+use Rattle.runner.proofs.Leaves.{sides}
+use borrow.Author.Needs.{needs}
+use Rattle.runner.proofs.next_side.Statement.{statement}
+use Rattle.runner.proofs.next_side.Tie as tie
+
+pub next-side-spec : {M : Type 1} → statement M
+next-side-spec = tie.close (tie.spec
+    (λ c. search sides)  -- returns
+    (λ c. search needs)  -- mul-match
+    (λ c. search needs)  -- shared-slice-read-match
+    (λ c. search sides)  -- returns-2
+    (λ c. search sides)  -- returns-3
+    (λ c. search sides))  -- returns-4

@@ -1,0 +1,91 @@
+-- How the state and the ending that the code keeps by value stand for those of a run's definition. Assumes nothing: these are definitions.
+use Prim.Native.Nat.{ℕ, _≤_, _<_}
+use mathlib.Core.Path.{_≡_}
+use mathlib.Core.Bool.{Bool, true, false}
+use mathlib.Core.List.{List}
+use lib.Dec.{eqb, ltb}
+use lib.ListN.{length, take, drop}
+use Rattle.model.specs.Lists.{if_then_else_, word}
+use Rattle.model.specs.Blocks.{F, N, T, widths, Call, body}
+use Rattle.model.specs.Trees.{Stmt, asStatement, tree}
+use Rattle.model.specs.Good.{Within, Good}
+use Rattle.model.specs.Runs.{State, state, Outcome, passed, blocked, failed, refused, run, noApply, runTable, packetWidths}
+use Rattle.model.specs.Demands.{Accepted}
+use Rattle.values.specs.Ready.{Ready}
+use Rattle.runner.specs.declared.State.{State as Held}
+use Rattle.runner.specs.declared.Ending.{Ending}
+use Rattle.runner.specs.declared.End.{End}
+use Rattle.runner.specs.declared.Side.{Side}
+use Rattle.runner.specs.declared.Action.{Action}
+use Rattle.runner.specs.declared.Scope.{Scope}
+
+-- the packet is the first F of the 32 words, and the entries that are left are those after the used ones
+abbrev pub packetIn : List ℕ → Held → List ℕ
+packetIn p s = take (F p) (s .packet)
+
+abbrev pub held : List ℕ → ℕ → Held
+held packet used = record { packet = packet; used = used }
+
+abbrev pub stateIn : List ℕ → List ℕ → Held → State
+stateIn p choices s = state (packetIn p s) (drop (s .used) choices) (s .used)
+
+-- a refusal's place is the number of entries used
+abbrev pub outcomeBy : Ending → State → Outcome
+outcomeBy Ending.Passed s = passed s
+outcomeBy (Ending.Blocked n) s = blocked n s
+outcomeBy (Ending.Failed n) s = failed n s
+outcomeBy Ending.Short s = refused 14 (s .used)
+outcomeBy Ending.Wrong s = refused 15 (s .used)
+
+abbrev pub endOf : Held → Ending → End
+endOf s how = record { state = s; how = how }
+
+-- what a run relies on of the block and of where it stands
+pub record Stands (p : List ℕ) (s : Held) : Type 0 where
+  pub ready : Ready p (packetIn p s)
+  pub few : F p ≤ 32
+
+-- the packet stays within its widths
+pub record Ends (p choices : List ℕ) (e : End) (o : Outcome) : Type 0 where
+  pub outcome : outcomeBy (e .how) (stateIn p choices (e .state)) ≡ o
+  pub within : Within (packetWidths p) (packetIn p (e .state))
+
+-- which side the next entry takes
+abbrev pub sideOf : ℕ → Side
+sideOf entry = if eqb entry 0 then Side.First else if eqb entry 1 then Side.Second else Side.Wrong
+
+unfoldable pub sideAt : List ℕ → ℕ → Side
+sideAt choices used = if ltb used (length choices) then sideOf (word choices used) else Side.Missing
+
+-- the body of the action that is called, with its data
+pub record Calls (p : List ℕ) (a : Action) (c : Call) : Type 0 where
+  pub body : a .body ≡ body p (c .action)
+  pub inside : a .scope .inside ≡ true
+  pub given : a .scope .given ≡ c .«data»
+
+-- in an action's body there is no apply
+abbrev pub onApply : Bool → List ℕ → List ℕ → ℕ → State → Outcome
+onApply true p r = noApply
+onApply false p r = runTable p r
+
+abbrev pub tablesIn : Bool → List ℕ → ℕ
+tablesIn true p = 0
+tablesIn false p = T p
+
+abbrev pub statementOf : List ℕ → Scope → ℕ → Stmt
+statementOf p scope n = asStatement (tree p (scope .given) n)
+
+abbrev pub runOf : List ℕ → List ℕ → Scope → ℕ → State → Outcome
+runOf p r scope n = run (widths p) (onApply (scope .inside) p r) (statementOf p scope n)
+
+-- node n is a statement that may run there
+pub record Runnable (p r : List ℕ) (scope : Scope) (s : Held) (n : ℕ) : Type 0 where
+  pub accepted : Accepted p r
+  pub within : Within (packetWidths p) (packetIn p s)
+  pub below : n < N p
+  pub good : Good (widths p) (tablesIn (scope .inside) p) (statementOf p scope n)
+
+-- the state that a run starts from
+pub record Begun (packet : List ℕ) (s : Held) : Type 0 where
+  pub fields : take (length packet) (s .packet) ≡ packet
+  pub used : s .used ≡ 0

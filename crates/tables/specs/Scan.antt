@@ -1,0 +1,31 @@
+-- How far a scan over the rules has come. Assumes nothing: these are definitions.
+use Prim.Native.Nat.{ℕ}
+use mathlib.Core.Bool.{Bool, true}
+use mathlib.Core.List.{List}
+use lib.Dec.{eqb}
+use Rattle.bits.specs.Width as bits
+use Rattle.model.specs.Lists.{each, those, word}
+use Rattle.model.specs.Blocks.{key, tableOf, value, mask}
+use Rattle.model.specs.Tables.{matches, triedBefore, ordered, firstThat}
+use Rattle.model.specs.declared.Hit.{Hit}
+
+-- key j of rule i, whose table is t, matches
+abbrev pub keyMatches : List ℕ → List ℕ → List ℕ → ℕ → ℕ → ℕ → Bool
+keyMatches p r packet i t j = bits.under (mask r i j) (value r i j) (word packet (key p t j))
+
+-- those below n that belong, in the order that `before` says
+unfoldable pub orderedTo : (ℕ → ℕ → Bool) → (ℕ → Bool) → ℕ → List ℕ
+orderedTo before own n = ordered before (those own (each (λ i. i) n))
+
+-- rule i is one of table t's
+abbrev pub ofTable : List ℕ → ℕ → ℕ → Bool
+ofTable r t i = eqb (tableOf r i) t
+
+-- which of the rules of table t below n hits
+unfoldable pub hitTo : List ℕ → List ℕ → List ℕ → ℕ → ℕ → Hit
+hitTo p r packet t n = firstThat (matches p r packet) (orderedTo (triedBefore r) (ofTable r t) n)
+
+-- i stands before what is found; before the default everything does
+abbrev pub precedes : (ℕ → ℕ → Bool) → ℕ → Hit → Bool
+precedes before i (Hit.Rule j) = before i j
+precedes before i Hit.Default = true

@@ -1,0 +1,97 @@
+// Which rule of a table hits a packet. Only `tried_before` knows the order in which rules are tried.
+use model::Hit;
+ghost use mathlib.Core.Path.{_≡_};
+ghost use Prim.Native.Nat.{ℕ, _+_, _<_};
+ghost use Rattle.model.specs.Blocks.{R, keyCount, tableOf};
+ghost use Rattle.model.specs.Tables.{matches, triedBefore, hit};
+ghost use Rattle.tables.specs.Fitting.{Fitting};
+ghost use Rattle.tables.specs.Scan.{keyMatches, precedes, hitTo};
+
+fn table_of(r: &[u32], i: usize) -> usize
+    requires { ⌜ i < R (now r) ⌝ }
+    ensures { λ t. ⌜ t ≡ tableOf (now (r .entry)) i ⌝ }
+{
+    blocks::wide(blocks::table_of(r, i))
+}
+
+// Key j of rule i, whose table is t.
+fn key_matches(p: &[u32], r: &[u32], packet: &[u32], i: usize, t: usize, j: usize) -> bool
+    requires { ⌜ Fitting (now p) (now r) (now packet) ⌝ }
+    requires { ⌜ i < R (now r) ⌝ }
+    requires { ⌜ t ≡ tableOf (now r) i ⌝ }
+    requires { ⌜ j < keyCount (now p) t ⌝ }
+    ensures { λ b. ⌜ b ≡ keyMatches (now (p .entry)) (now (r .entry)) (now (packet .entry)) i t j ⌝ }
+{
+    let field = blocks::wide(blocks::key(p, t, j));
+    let mask = blocks::mask(r, i, j);
+    let value = blocks::value(r, i, j);
+    bits::under(mask, value, blocks::word(packet, field))
+}
+
+pub fn matches(p: &[u32], r: &[u32], packet: &[u32], i: usize) -> bool
+    requires { ⌜ Fitting (now p) (now r) (now packet) ⌝ }
+    requires { ⌜ i < R (now r) ⌝ }
+    ensures { λ b. ⌜ b ≡ matches (now (p .entry)) (now (r .entry)) (now (packet .entry)) i ⌝ }
+{
+    let t = table_of(r, i);
+    let count = blocks::wide(blocks::key_count(p, t));
+    let mut j = 0;
+    while j < count {
+        if key_matches(p, r, packet, i, t, j) {
+            j += 1;
+        } else {
+            return false;
+        }
+    }
+    true
+}
+
+// Block order.
+pub fn tried_before(r: &[u32], i: usize, j: usize) -> bool
+    requires { ⌜ i < R (now r) ⌝ }
+    requires { ⌜ j < R (now r) ⌝ }
+    ensures { λ b. ⌜ b ≡ triedBefore (now (r .entry)) i j ⌝ }
+{
+    i < j
+}
+
+// Every rule is tried before the default is taken.
+fn precedes(r: &[u32], i: usize, best: Hit) -> bool
+    requires { ⌜ i < R (now r) ⌝ }
+    requires { ⌜ ((j : ℕ) → best ≡ Hit.Rule j → j < R (now r)) ⌝ }
+    ensures { λ b. ⌜ b ≡ precedes (triedBefore (now (r .entry))) i best ⌝ }
+{
+    match best {
+        Hit::Rule(j) => tried_before(r, i, j),
+        Hit::Default => true,
+    }
+}
+
+// Rule i takes the place of the best below it. The tests stand in the order of their cost, so that in block order nothing is matched after
+// the first hit.
+fn better(p: &[u32], r: &[u32], packet: &[u32], t: usize, i: usize, best: Hit) -> Hit
+    requires { ⌜ Fitting (now p) (now r) (now packet) ⌝ }
+    requires { ⌜ i < R (now r) ⌝ }
+    requires { ⌜ best ≡ hitTo (now p) (now r) (now packet) t i ⌝ }
+    ensures { λ h. ⌜ h ≡ hitTo (now (p .entry)) (now (r .entry)) (now (packet .entry)) t (i + 1) ⌝ }
+{
+    if table_of(r, i) == t && precedes(r, i, best) && matches(p, r, packet, i) {
+        Hit::Rule(i)
+    } else {
+        best
+    }
+}
+
+pub fn hit(p: &[u32], r: &[u32], packet: &[u32], t: usize) -> Hit
+    requires { ⌜ Fitting (now p) (now r) (now packet) ⌝ }
+    ensures { λ h. ⌜ h ≡ hit (now (p .entry)) (now (r .entry)) (now (packet .entry)) t ⌝ }
+{
+    let count = blocks::rule_count(r);
+    let mut best = Hit::Default;
+    let mut i = 0;
+    while i < count {
+        best = better(p, r, packet, t, i, best);
+        i += 1;
+    }
+    best
+}
