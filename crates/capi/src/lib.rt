@@ -9,7 +9,7 @@ ghost use mathlib.Core.Path.{_≡_};
 ghost use mathlib.Core.List.{[], _∷_};
 ghost use lib.ListN.{length};
 ghost use Rattle.model.specs.Answers.{done, told, yesOrNo, refusalOf, lookedUp};
-ghost use Rattle.model.specs.Calls.{check, lookup, run, confirm, written};
+ghost use Rattle.model.specs.Calls.{check, lookup, run, endValues, endPacket, confirm, written};
 ghost use Rattle.capi.specs.Returns.{Returns};
 
 // A success with its values; a call that has fewer than three gives 0 for the others.
@@ -81,9 +81,9 @@ pub extern "C" fn mz_run(
     second: &mut u64,
     third: &mut u64,
 ) -> u64
-    ensures { λ r. ⌜ Returns (told (λ e. e .how ∷ e .node ∷ e .state .used ∷ []) (run (now (pipeline .entry)) (now (rules .entry)) (now (packet .entry)) (now (choices .entry)) (length (now (end .entry))))) r
+    ensures { λ r. ⌜ Returns (told endValues (run (now (pipeline .entry)) (now (rules .entry)) (now (packet .entry)) (now (choices .entry)) (length (now (end .entry))))) r
         (now (first .exit)) (now (second .exit)) (now (third .exit)) ⌝ }
-    ensures { λ _. ⌜ now (end .exit) ≡ written (run (now (pipeline .entry)) (now (rules .entry)) (now (packet .entry)) (now (choices .entry)) (length (now (end .entry)))) (λ e. e .state .packet) (now (end .entry)) ⌝ }
+    ensures { λ _. ⌜ now (end .exit) ≡ written (run (now (pipeline .entry)) (now (rules .entry)) (now (packet .entry)) (now (choices .entry)) (length (now (end .entry)))) endPacket (now (end .entry)) ⌝ }
 {
     match runner::run(pipeline, rules, packet, choices, end) {
         Ran::Passed { used } => succeed(0, 0, used as u64, first, second, third),

@@ -18,7 +18,7 @@ use Rattle.model.specs.Answers as said
 use Rattle.model.specs.Answers.{Answer, done, refused, after, told, refusalOf, yesOrNo}
 use Rattle.model.specs.Refusals.{Row, given, judge, checkRows, conditionRows, evaluateRows, lateRow}
 use Rattle.model.specs.Calls as calls
-use Rattle.model.specs.Calls.{Begins, Ended, wordsInto, lookup, ended, failsWhole, load, check, confirm, passify, condition, evaluate, extract, loadRows, startRows, runRows, passifyRows, extractRows}
+use Rattle.model.specs.Calls.{Begins, Ended, endValues, wordsInto, lookup, ended, failsWhole, load, check, confirm, passify, condition, evaluate, extract, loadRows, startRows, runRows, passifyRows, extractRows}
 use Rattle.model.specs.Demands.{One, SamePart, OneAnswer, Demand1}
 use Rattle.model.specs.declared.Refusal.{Refusal}
 use Rattle.model.specs.declared.Part.{Part}
@@ -264,17 +264,14 @@ check-one p r = call speaks-checked _ (check p r) (go (judge (checkRows p r)) (j
     go (done _) h = refl
     go (refused n q) h = h
 
-abbrev ends : Ended → List ℕ
-ends e = e .how ∷ e .node ∷ e .state .used ∷ []
-
-run-one : (p r packet choices : List ℕ) (lent : ℕ) → One (λ x. said.ran x ≡ told ends (calls.run p r packet choices lent))
+run-one : (p r packet choices : List ℕ) (lent : ℕ) → One (λ x. said.ran x ≡ told endValues (calls.run p r packet choices lent))
 unfolding calls.run
 run-one p r packet choices lent =
-    call speaks-ran ends (calls.run p r packet choices lent)
+    call speaks-ran endValues (calls.run p r packet choices lent)
     (rows-fine _ (runRows p r packet lent) _ (known-append (known-start p r packet) ((λ i. refl) and all))
     (go (pipelineRun p r packet choices) (pipeline-fine p r packet choices)))
   where
-    go : (o : Outcome) → Fine Any (ended o) → Fine (Made speaks-ran ends) (ended o)
+    go : (o : Outcome) → Fine Any (ended o) → Fine (Made speaks-ran endValues) (ended o)
     go (Outcome.passed s) h = refl
     go (Outcome.blocked n s) h = refl
     go (Outcome.failed n s) h = refl

@@ -16,7 +16,7 @@ use Rattle.model.specs.Runs.{Outcome, pipelineRun}
 use Rattle.model.specs.Answers as said
 use Rattle.model.specs.Answers.{Answer, done, refused, after, told}
 use Rattle.model.specs.Refusals.{Row, judge, countsWell, checkRows, evaluateRows, lateRow}
-use Rattle.model.specs.Calls.{written, unlessRefused, lookup, ended, failsWhole, load, check, run, confirm, passify, condition, evaluate, extract, startRows, runRows, Ended}
+use Rattle.model.specs.Calls.{written, unlessRefused, lookup, endValues, ended, failsWhole, load, check, run, confirm, passify, condition, evaluate, extract, startRows, runRows, Ended}
 use Rattle.model.specs.Demands.{Exact, ExactOnRun, Kept, Clear, First, Applies, OneAnswer, Demand1}
 use Rattle.model.specs.declared.Hit.{Hit}
 use Rattle.model.specs.declared.Part.{Part}
@@ -147,9 +147,8 @@ exact-calls one =
       lookup = λ p r packet t part h. rw (h .words) (lookup-exact (p .now) (r .now) packet t);
       run = λ p r packet choices end a end′ h.
           let m = run p r packet choices (length end) in
-          let values : Ended → List ℕ = λ e. e .how ∷ e .node ∷ e .state .used ∷ [] in
           let rows = runRows p r packet (length end) in
-          (exact-run values rows (λ x. x) (pipelineRun p r packet choices) (said.ran a) (rw alone (h .answers)), kept _ _ m _ _ _ (h .answers) (h .endArea));
+          (exact-run endValues rows (λ x. x) (pipelineRun p r packet choices) (said.ran a) (rw alone (h .answers)), kept _ _ m _ _ _ (h .answers) (h .endArea));
       confirm = λ p r packet choices a h. exact-run _ _ (failsWhole choices) (pipelineRun p r packet choices) _ (h .answers);
       passify = λ p r nodes widths a nodes′ widths′ h.
           let m = passify p r (length nodes) (length widths) in

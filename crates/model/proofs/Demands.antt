@@ -17,7 +17,7 @@ use Rattle.model.specs.Condition.{conditionOf}
 use Rattle.model.specs.Walk.{goesWrong, packetOf, choicesOf}
 use Rattle.model.specs.Answers as said
 use Rattle.model.specs.Answers.{done, after, told, yesOrNo}
-use Rattle.model.specs.Calls.{written, ended, failsWhole, conditionTruth}
+use Rattle.model.specs.Calls.{written, endValues, endPacket, ended, failsWhole, conditionTruth}
 use Rattle.model.specs.Demands.{Ends, Falsifies, FailsWith, Accepted, Small, formWords, conditionWords, Falsifiable, CanFail, Demand2, Demand3, NotConstant, variableWidths}
 use Rattle.model.specs.Examples.{bothFalse}
 use Rattle.model.specs.declared.Ran.{Ran}
@@ -38,8 +38,8 @@ use Rattle.model.proofs.WordsFit.{form-fits, condition-fits}
 use Rattle.model.proofs.CallsGive.{run-gives, confirm-gives, confirm-yes, passify-gives, extract-gives}
 
 -- what says how the run ends is that ending, and the end area is as that ending leaves it
-ends : (o : Outcome) (a : Ran) (end end′ : List ℕ) → said.ran a ≡ told (λ e. e .how ∷ e .node ∷ e .state .used ∷ []) (ended o)
-    → end′ ≡ written (ended o) (λ e. e .state .packet) end → Ends o a end end′
+ends : (o : Outcome) (a : Ran) (end end′ : List ℕ) → said.ran a ≡ told endValues (ended o)
+    → end′ ≡ written (ended o) endPacket end → Ends o a end end′
 ends (Outcome.passed s) a end end′ e w = (one-said speaks-ran a (Ran.Passed (s .used)) _ e refl, w)
 ends (Outcome.blocked n s) a end end′ e w = (one-said speaks-ran a (Ran.Blocked n (s .used)) _ e refl, w)
 ends (Outcome.failed n s) a end end′ e w = (one-said speaks-ran a (Ran.Failed n (s .used)) _ e refl, w)

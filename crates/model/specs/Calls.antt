@@ -113,6 +113,13 @@ pub record Ended : Type 0 where
   pub node : ℕ
   pub state : State
 
+-- what it gives: how, the node and the entries used; and the packet
+abbrev pub endValues : Ended → List ℕ
+endValues e = e .how ∷ e .node ∷ e .state .used ∷ []
+
+abbrev pub endPacket : Ended → List ℕ
+endPacket e = e .state .packet
+
 abbrev pub ended : Outcome → Answer Ended
 ended (Outcome.passed s) = done (record { how = 0; node = 0; state = s })
 ended (Outcome.blocked n s) = done (record { how = 1; node = n; state = s })
@@ -126,8 +133,8 @@ unfoldable pub run : List ℕ → List ℕ → List ℕ → List ℕ → ℕ →
 run p r packet choices endRoom = after (judge (runRows p r packet endRoom)) (λ _. ended (pipelineRun p r packet choices))
 
 pub record Runs (p r packet choices end : List ℕ) (answer : Ran) (end′ : List ℕ) : Type 0 where
-  pub answers : said.ran answer ≡ told (λ e. e .how ∷ e .node ∷ e .state .used ∷ []) (run p r packet choices (length end))
-  pub endArea : end′ ≡ written (run p r packet choices (length end)) (λ e. e .state .packet) end
+  pub answers : said.ran answer ≡ told endValues (run p r packet choices (length end))
+  pub endArea : end′ ≡ written (run p r packet choices (length end)) endPacket end
 
 -- CONFIRM: as Run, without 12. Yes exactly when the run fails and uses its whole choice list
 abbrev pub failsWhole : List ℕ → Ended → Bool

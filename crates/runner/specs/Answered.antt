@@ -1,10 +1,10 @@
 -- What the calls' functions tell each other of an answer. Assumes nothing: these are definitions.
 use Prim.Native.Nat.{ℕ, _+_, _≤_}
 use mathlib.Core.Path.{_≡_}
-use mathlib.Core.List.{List, [], _∷_}
+use mathlib.Core.List.{List}
 use lib.ListN.{length}
 use Rattle.model.specs.Answers.{Answer, told, ran}
-use Rattle.model.specs.Calls.{Ended, written}
+use Rattle.model.specs.Calls.{Ended, endValues, endPacket, written}
 use Rattle.model.specs.declared.Part.{Part}
 use Rattle.model.specs.declared.Ran.{Ran}
 
@@ -16,5 +16,5 @@ Inside p r Part.Empty = Unit {0}
 
 -- what Run answers and leaves in the end area, once the run has ended
 pub record Finished (answer : Answer Ended) (end : List ℕ) (a : Ran) (end′ : List ℕ) : Type 0 where
-  pub answers : ran a ≡ told (λ e. e .how ∷ e .node ∷ e .state .used ∷ []) answer
-  pub endArea : end′ ≡ written answer (λ e. e .state .packet) end
+  pub answers : ran a ≡ told endValues answer
+  pub endArea : end′ ≡ written answer endPacket end
