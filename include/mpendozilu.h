@@ -11,7 +11,8 @@
  * is not named is written 0, so no call leaves one of them as it was.
  *
  * Calls keep nothing between them, so several threads may call at once, as long as nobody writes what is lent, or reads an area that may
- * be written, until its call returns. The library is compiled for Linux on x86-64.
+ * be written, until its call returns. The library is compiled for Linux on x86-64. A run calls itself as deep as the pipeline's tree: a thread that
+ * calls needs a stack of 1 MiB.
  *
  * The numbers, and the place that each is given with:
  *
@@ -31,7 +32,7 @@
  *     13  widths outside 1 to 32, else valuation length,    index; length; index
  *         else value too wide
  *     14  choice list too short                             entries used
- *     15  entry out of range                                entry
+ *     15  entry out of range                                entry: its index in the list
  *     16  condition is true                                 0
  *     17  malformed condition                               entry; 0 for length
  *     18  malformed passive form                            node; 0 for length

@@ -1,17 +1,18 @@
 #!/usr/bin/env bash
 # Builds the archive for C, links tests/driver.c with it, and runs that on the vectors, on Check's limits and on the rows of Run, Confirm
 # and Lookup. Two cases of its own are that the driver fails wrong answers, and that C++ takes the header.
-# The archive is for x86-64: on another processor the driver is compiled across and run by an emulator.
+# The archive is for x86-64: on another processor the driver is compiled across and run by an emulator. Either way it has the stack that the
+# header asks for, 1 MiB, and no more.
 # The last line is 'N passed, M failed'.
 set -eu
 cd "$(dirname "$0")/.."
 
 work=target/library
 compiler=(gcc)
-emulator=()
+limited=(bash -c 'ulimit -s 1024 && exec "$@"' limited)
 if [ "$(uname -m)" != x86_64 ]; then
     compiler=(x86_64-linux-gnu-gcc -static)
-    emulator=(qemu-x86_64)
+    limited=(qemu-x86_64 -s 1048576)
 fi
 
 rt staticlib capi
@@ -47,12 +48,12 @@ wrong_answers() {
 }
 
 own=0
-wrong=$(wrong_answers | "${emulator[@]}" "$work/driver" | tail -n 1) || true
+wrong=$(wrong_answers | "${limited[@]}" "$work/driver" | tail -n 1) || true
 if [ "$wrong" = "0 passed, $(wrong_answers | wc -l) failed" ]; then own=$((own + 1)); else echo "the driver passes a wrong answer: $wrong"; fi
 if g++ -Wall -Wextra -Werror -fsyntax-only -x c++ include/mpendozilu.h; then own=$((own + 1)); fi
 
 status=0
-"${emulator[@]}" "$work/driver" tests/vectors/document-01.txt "$work/check_rows.txt" "$work/run_rows.txt" >"$work/log" || status=1
+"${limited[@]}" "$work/driver" tests/vectors/document-01.txt "$work/check_rows.txt" "$work/run_rows.txt" >"$work/log" || status=1
 cat "$work/log"
 line=$(tail -n 1 "$work/log")
 passed=${line%% passed*}

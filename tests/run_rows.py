@@ -366,6 +366,14 @@ def keyless_tables():
     hits('a keyless table with two rules', p, [rule(0, [], 0, 1), rule(0, [], 0, 2)], [7, 5], 0)
 
 
+def same_words():
+    """A rule and the default with the same three words are two parts."""
+    p, _ = one_key()
+    rules = [rule(0, [(7, 255)], 1, 99), rule(0, [(8, 255)], 1, 99)]
+    for key, part in ((7, in_rules(rules, 0, [1, 99, 0])), (8, in_rules(rules, 1, [1, 99, 0])), (9, in_pipeline(p, 0, [1, 99, 0]))):
+        lookup(f'the same words in two rules and the default, key {key}', p, rules, [key, 5], 0, part)
+
+
 def several_tables():
     p, _ = one_key()
     p.table([1], 1, 97)
@@ -396,9 +404,9 @@ def empty_parts():
     lookup('a rule that is refused', p, [*rules, rule(1, [], 0)], [7, 5], 0, 'empty')
     lookup('a rule cut short', p, [*rules, [0]], [7, 5], 0, 'empty')
     lookup('rules that are well', p, rules, [7, 5], 0, in_rules(rules, 0, [0, 1, 0]))
+    case('a pipeline cut short', 'lookup', p.words()[:-1], rules, [7, 5], 0, 'empty')
     p.nodes[0][2] = 9
     lookup('a node that is refused', p, rules, [7, 5], 0, 'empty')
-    case('a pipeline cut short', 'lookup', p.words()[:-1], rules, [7, 5], 0, 'empty')
 
 
 def limits():
@@ -696,7 +704,7 @@ def balanced_choices():
 
 
 for section in (choice_entries, havoc_entries, each_fields_width, short_lists, entries_in_bodies, end_areas, packets, orders, passed_and_left_over,
-                first_ending, endings_in_sides, endings_in_bodies, confirms, matching_rules, wide_keys, several_keys, keyless_tables, several_tables,
+                first_ending, endings_in_sides, endings_in_bodies, confirms, matching_rules, wide_keys, several_keys, keyless_tables, same_words, several_tables,
                 empty_parts, limits, changed_keys, changed_inside, parameters, two_operands, one_operand, joins, plain_values, selects, comparisons,
                 connectives, deep_complements, deep_operands, deep_selects, deep_sequences, deep_choices, balanced_choices):
     section()

@@ -1,7 +1,7 @@
 // The records of a pipeline block and of a rule block, read in place. Counts and places are usize; a word is as the block has it.
 use model::Node;
 ghost use mathlib.Core.Path.{_≡_};
-ghost use Prim.Native.Nat.{_+_, _*_, _≤_, _<_, _^_};
+ghost use Prim.Native.Nat.{_+_, _≤_, _<_, _^_};
 ghost use lib.ListN.{length};
 ghost use Rattle.model.specs.Lists.{word};
 ghost use Rattle.model.specs.Blocks.{F, N, A as actions, T, R, root, pipelineLength, width, widths, nodePlace, actionPlace, tablePlace, rulePlace, nodeAt, pipelineNode, body, parameterCount, parameterWidth, keyCount, key, defaultPlace, tableOf, value, mask, callPlace};
@@ -57,7 +57,7 @@ pub fn word(ws: &[u32], at: usize) -> u32
 }
 
 // The word at a place, and 0 where there is none.
-pub fn word_or_zero(ws: &[u32], i: u32) -> u32
+pub fn word_in(ws: &[u32], i: u32) -> u32
     ensures { λ r. ⌜ r ≡ word (now (ws .entry)) i ⌝ }
 {
     let at = i as usize;

@@ -62,7 +62,7 @@ pub extern "C" fn mz_lookup(
 ) -> u64
     ensures { λ r. ⌜ Returns (lookedUp (lookup (now (pipeline .entry)) (now (rules .entry)) (now (packet .entry)) table)) r (now (first .exit)) (now (second .exit)) (now (third .exit)) ⌝ }
 {
-    match runner::part_of(pipeline, rules, packet, table) {
+    match runner::lookup_part(pipeline, rules, packet, table) {
         Part::Empty => succeed(0, 0, 0, first, second, third),
         Part::Rules(at) => succeed(1, at as u64, 0, first, second, third),
         Part::Pipeline(at) => succeed(2, at as u64, 0, first, second, third),

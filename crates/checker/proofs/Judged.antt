@@ -16,7 +16,7 @@ use Rattle.model.specs.declared.Refusal.{Refusal}
 use Rattle.model.proofs.First.{first-past, first-all, judge-stop, judge-on, once-stop, once-on, judge-append}
 use Rattle.model.proofs.Refusals.{clear}
 use Rattle.model.proofs.Accepted.{counts, action-fits}
-use Rattle.model.proofs.Passing.{told-done, told-refused}
+use Rattle.model.proofs.Passing.{told-done, told-after}
 use Rattle.nodes.specs.Codes.{Coded}
 use Rattle.uses.specs.Counts.{firstMiscounted}
 use Rattle.uses.specs.Owners.{UsedOnce}
@@ -101,7 +101,7 @@ module _ (p r : List ℕ) (u : Bool) (e : u ≡ countsWell p r) where
 
     pub pipeline-refuses : (refusal : Refusal) → a ≡ Checked.Refused refusal → Checks p r (Checked.Refused refusal)
     pipeline-refuses refusal d =
-        record { answers = judged-on (refusalOf refusal) (told-refused refusal (judge (pipelineRows p)) (rw d at k) (λ _. []) (λ _. judge (ruleRows p r))) }
+        record { answers = judged-on (refusalOf refusal) (told-after refusal (judge (pipelineRows p)) (rw d at k) (λ _. []) (λ _. judge (ruleRows p r))) }
 
     pub rules-judge : (b : Checked) → a ≡ Checked.Accepted → checked b ≡ told (λ _. []) (judge (ruleRows p r)) → Checks p r b
     rules-judge b d l = record { answers = judged-on (checked b) (rw (told-done (judge (pipelineRows p)) (rw d at k)) l) }

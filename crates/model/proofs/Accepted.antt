@@ -16,7 +16,7 @@ use Rattle.model.specs.Blocks.{F, N, A, T, R, root, size, pipelineLength
 use Rattle.model.specs.Nodes.{kinds, isWidth, isFormed, isStatement, sortOf}
 use Rattle.model.specs.Trees.{noData, program, called}
 use Rattle.model.specs.Good.{widthOfValue, GoodValue, GoodTest, Good}
-use Rattle.model.specs.Tables.{triedBefore, tried, callOf}
+use Rattle.model.specs.Tables.{triedBefore, ofTable, tried, callOf}
 use Rattle.model.specs.Passive.{keyTest, keyTests, matching}
 use Rattle.model.specs.Refusals.{countsWell, pipelineSorts, sortAt, wellOrZero, usedOrZero, actionWell, callWell, tableWell, uses, underEach, standsUnder, placedWell, pairWell, ruleWell, checkRows}
 use Rattle.model.specs.Calls.{check}
@@ -311,7 +311,7 @@ pub tried-below : (r : List ℕ) (t : ℕ) → All (OfTable r t) (tried r t)
 unfolding tried
 tried-below r t =
     let below : ℕ → Type 0 = λ i. i < R r in
-    let test : ℕ → Bool = λ i. eqb (tableOf r i) t in
+    let test = ofTable r t in
     let own = all-those below test (each (λ i. i) (R r)) (all-each below (λ i. i) (R r) (λ i k. k)) in
     all-ordered (OfTable r t) (triedBefore r) (those test (each (λ i. i) (R r)))
     (all-with (λ i. below i × (test i ≡ true)) (OfTable r t) (those test (each (λ i. i) (R r))) (λ i m k. (k .0, eqb-true (tableOf r i) t (k .1))) own)

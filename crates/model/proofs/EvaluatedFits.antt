@@ -30,8 +30,8 @@ use Rattle.model.proofs.Every.{All, all-places, build-related}
 use Rattle.model.proofs.KindNumbers.{kindOf-allowed}
 use Rattle.model.proofs.SortTests.{width-true, only-has, value-is, test-is, alike-parts}
 use Rattle.model.proofs.GoodForms.{AllWidths}
-use Rattle.model.proofs.Within.{within-at, within-of}
-use Rattle.model.proofs.Fits.{Sized, one-of}
+use Rattle.model.proofs.Within.{within-of}
+use Rattle.model.proofs.Fits.{Sized, numbers-sized, one-of}
 use Rattle.model.proofs.Formed.{sort, sorts-at}
 use Rattle.model.proofs.Accepts.{nodes-formed, nodes-end}
 
@@ -187,7 +187,7 @@ module _ (entries ws valuation : List ℕ) where
       at = bitsIn ws valuation
 
       known : (j : ℕ) → Sized (at j) (getD ws j 0)
-      known j = record { wide = refl; below = within-at ws valuation v j }
+      known = numbers-sized ws valuation v
 
 -- ---- what Evaluate accepts
 

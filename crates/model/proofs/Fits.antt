@@ -6,9 +6,10 @@ use mathlib.Core.List.{List}
 use lib.ListN.{getD, length}
 use Rattle.bits.proofs.Widths.{binary-fits, complement-fits, slice-fits, join-fits}
 use Rattle.model.specs.Lists.{if_then_else_}
-use Rattle.model.specs.Trees.{Val, bitsOf, truthOf}
-use Rattle.model.specs.Good.{widthOfValue, GoodValue}
+use Rattle.model.specs.Trees.{Val, bitsOf, truthOf, bitsIn}
+use Rattle.model.specs.Good.{Within, widthOfValue, GoodValue}
 use Rattle.model.specs.declared.Bits.{Bits}
+use Rattle.model.proofs.Within.{within-at}
 
 pub record Sized (x : Bits) (w : ℕ) : Type 0 where
   pub wide : x .width ≡ w
@@ -17,6 +18,10 @@ pub record Sized (x : Bits) (w : ℕ) : Type 0 where
 pub one-of : (b : Bool) {x y : Bits} {w : ℕ} → Sized x w → Sized y w → Sized (if b then x else y) w
 one-of true h k = h
 one-of false h k = k
+
+-- the bits of a packet's or of a valuation's numbers
+pub numbers-sized : (ws numbers : List ℕ) → Within ws numbers → (i : ℕ) → Sized (bitsIn ws numbers i) (getD ws i 0)
+numbers-sized ws numbers h i = record { wide = refl; below = within-at ws numbers h i }
 
 module _ (ws : List ℕ) (at : ℕ → Bits) (ok : (i : ℕ) → i < length ws → Sized (at i) (getD ws i 0)) where
   pub sized : (v : Val) → GoodValue ws v → Sized (bitsOf at v) (widthOfValue ws v)

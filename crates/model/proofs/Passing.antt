@@ -43,9 +43,9 @@ module _ (x : Refusal) (rows : List Row) (h : Refuses x (judge rows)) where
   pub tells-on : (more : List Row) {A : Type 0} (values : A → List ℕ) (next : Unit {0} → Answer A) → refusalOf x ≡ told values (after (judge (rows ++ more)) next)
   tells-on more values next = rw (passed-on more next) (h .names)
 
-pub told-refused : (x : Refusal) (answer : Answer (Unit {0})) → refusalOf x ≡ told (λ _. []) answer
+pub told-after : (x : Refusal) (answer : Answer (Unit {0})) → refusalOf x ≡ told (λ _. []) answer
     → {A : Type 0} (values : A → List ℕ) (next : Unit {0} → Answer A) → refusalOf x ≡ told values (after answer next)
-told-refused x answer e values next = let h = told-refuses x answer e in rw (h .gives) (h .names)
+told-after x answer e values next = let h = told-refuses x answer e in rw (h .gives) (h .names)
 
 module _ (p r : List ℕ) where
   pub check-accepts : Checks p r Checked.Accepted → Accepted p r

@@ -12,7 +12,7 @@ use Rattle.model.specs.Blocks.{F, T, words}
 use Rattle.model.specs.Files.{Held, whole, fault, held, pipelineOf, rulesOf}
 use Rattle.model.specs.Trees.{bitsIn}
 use Rattle.model.specs.Tables.{hit, partOf, partWords}
-use Rattle.model.specs.Runs.{State, Outcome, packetWidths, pipelineRun}
+use Rattle.model.specs.Runs.{State, Outcome, packetWidths, start, pipelineRun}
 use Rattle.model.specs.Emit.{Emitted, passiveForm, formLimit}
 use Rattle.model.specs.Condition.{nodeCount, conditionOf, evaluated, bitsWords, lastTruth}
 use Rattle.model.specs.Walk.{packetOf, choicesOf}
@@ -89,7 +89,7 @@ startRows p r packet = checkRows p r ++ packetRows p packet  -- 2 to 11
 
 unfoldable pub lookup : List ℕ → List ℕ → List ℕ → ℕ → Part
 lookup p r packet t =
-    let there = partOf p r t (hit p r packet t) in
+    let there = partOf p r t (hit p r (start p packet [] .packet) t) in
     let found = if ltb t (T p) then there else Part.Empty in
     unlessRefused (judge (startRows p r packet)) found
 

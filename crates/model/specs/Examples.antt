@@ -20,8 +20,8 @@ use Rattle.model.specs.declared.Node.{Node}
 abbrev pub plenty : ℕ
 plenty = 10000
 
-abbrev pub lookedUp : List ℕ → List ℕ → List ℕ → ℕ → List ℕ
-lookedUp p r packet t = partWords p r (calls.lookup p r packet t)
+abbrev pub foundWords : List ℕ → List ℕ → List ℕ → ℕ → List ℕ
+foundWords p r packet t = partWords p r (calls.lookup p r packet t)
 
 abbrev pub ends : List ℕ → List ℕ → List ℕ → List ℕ → Answer (List ℕ)
 ends p r packet choices = told (λ e. e .how ∷ e .node ∷ e .state .used ∷ e .state .packet) (calls.run p r packet choices plenty)
@@ -242,8 +242,8 @@ pub record ExampleRows : Type 0 where
   pub two : (slice 7 4 171 ≡ 10) × (join 4 10 11 ≡ 171) × (ends parts [] (1 ∷ 1 ∷ []) [] ≡ done (0 ∷ 0 ∷ 0 ∷ 10 ∷ 171 ∷ []))
   pub three : (less 255 0 ≡ false) × (ends lessThan [] (5 ∷ []) [] ≡ done (2 ∷ 3 ∷ 0 ∷ 5 ∷ []))
   pub four : (under 240 16 31 ≡ true) × (under 240 16 32 ≡ false)
-      × (lookedUp keyed keyedRules (31 ∷ 0 ∷ []) 0 ≡ 0 ∷ 7 ∷ 0 ∷ []) × (lookedUp keyed keyedRules (32 ∷ 0 ∷ []) 0 ≡ 1 ∷ 0 ∷ 0 ∷ [])
-  pub five : (lookedUp keyless keylessRules (5 ∷ []) 0 ≡ 0 ∷ 1 ∷ 0 ∷ []) × (ends keyless keylessRules (5 ∷ []) [] ≡ done (0 ∷ 0 ∷ 0 ∷ 1 ∷ []))
+      × (foundWords keyed keyedRules (31 ∷ 0 ∷ []) 0 ≡ 0 ∷ 7 ∷ 0 ∷ []) × (foundWords keyed keyedRules (32 ∷ 0 ∷ []) 0 ≡ 1 ∷ 0 ∷ 0 ∷ [])
+  pub five : (foundWords keyless keylessRules (5 ∷ []) 0 ≡ 0 ∷ 1 ∷ 0 ∷ []) × (ends keyless keylessRules (5 ∷ []) [] ≡ done (0 ∷ 0 ∷ 0 ∷ 1 ∷ []))
   pub six : (ends (bothFalse 35 36) [] (5 ∷ []) [] ≡ done (1 ∷ 1 ∷ 0 ∷ 5 ∷ []))
       × ((valuation : List ℕ) → calls.conditionTruth (passiveForm (bothFalse 35 36) []) valuation ≡ true)
   pub seven : (ends (bothFalse 36 35) [] (5 ∷ []) [] ≡ done (2 ∷ 1 ∷ 0 ∷ 5 ∷ []))

@@ -29,9 +29,13 @@ unfoldable pub ordered : (ℕ → ℕ → Bool) → List ℕ → List ℕ
 ordered before [] = []
 ordered before (i ∷ is) = placed before i (ordered before is)
 
+-- rule i is one of table t's
+abbrev pub ofTable : List ℕ → ℕ → ℕ → Bool
+ofTable r t i = eqb (tableOf r i) t
+
 -- the rules of table t in the order in which they are tried
 unfoldable pub tried : List ℕ → ℕ → List ℕ
-tried r t = ordered (triedBefore r) (those (λ i. eqb (tableOf r i) t) (each (λ i. i) (R r)))
+tried r t = ordered (triedBefore r) (those (ofTable r t) (each (λ i. i) (R r)))
 
 -- the first of those that matches; the default if none does
 unfoldable pub firstThat : (ℕ → Bool) → List ℕ → Hit

@@ -2,7 +2,7 @@
 // from the sorts of its children, and the first node of a list that is malformed.
 use bits::Op;
 use bits::both;
-use blocks::word_or_zero;
+use blocks::word_in;
 use model::Comparison;
 use model::Connective;
 use model::Kind;
@@ -14,7 +14,7 @@ use model::Stage;
 ghost use mathlib.Core.Path.{_≡_};
 ghost use mathlib.Core.Bool.{_&&_};
 ghost use mathlib.Core.List.{List};
-ghost use Prim.Native.Nat.{ℕ, _+_, _*_, _-_, _≤_, _<_};
+ghost use Prim.Native.Nat.{ℕ, _+_, _*_, _-_, _≤_};
 ghost use lib.Dec.{ltb, leb};
 ghost use lib.ListN.{length, getD};
 ghost use Rattle.bits.specs.Width.{fits};
@@ -278,10 +278,7 @@ fn sort_by(widths: &[u32], tables: usize, kind: Kind, n: Node, s: Three) -> u8
     let c = s.c;
     match kind {
         Kind::Constant => constant_sort(n.a, n.b),
-        Kind::Field => only(
-            below(n.a, widths.len()),
-            value_code(word_or_zero(widths, n.a)),
-        ),
+        Kind::Field => only(below(n.a, widths.len()), value_code(word_in(widths, n.a))),
         Kind::Parameter => parameter_sort(n.b),
         Kind::Binary(_) => only(alike(a, b), a),
         Kind::Complement => only(is_value(a), a),
@@ -296,7 +293,7 @@ fn sort_by(widths: &[u32], tables: usize, kind: Kind, n: Node, s: Three) -> u8
         Kind::Assign => only(
             both(
                 below(n.a, widths.len()),
-                alike(b, value_code(word_or_zero(widths, n.a))),
+                alike(b, value_code(word_in(widths, n.a))),
             ),
             STATEMENT,
         ),

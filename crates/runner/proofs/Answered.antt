@@ -13,7 +13,7 @@ use Rattle.model.specs.Lists.{if_then_else_, part}
 use Rattle.model.specs.Blocks.{F, T, callPlace, defaultPlace}
 use Rattle.model.specs.Tables.{hit, partOf}
 use Rattle.model.specs.Good.{Within}
-use Rattle.model.specs.Runs.{packetWidths, pipelineRun}
+use Rattle.model.specs.Runs.{packetWidths, start, pipelineRun}
 use Rattle.model.specs.Answers.{done, after, told, yesOrNo, checked, confirmed}
 use Rattle.model.specs.Refusals.{room, judge}
 use Rattle.model.specs.Calls as calls
@@ -35,7 +35,7 @@ use Rattle.tables.proofs.Fitting.{fitting}
 use Rattle.runner.specs.declared.State.{State as Held}
 use Rattle.runner.specs.declared.Ending.{Ending}
 use Rattle.runner.specs.declared.End.{End}
-use Rattle.runner.specs.States.{packetIn, stateIn, outcomeBy, Stands, Ends}
+use Rattle.runner.specs.States.{packetIn, stateIn, outcomeBy, Stands, EndsAs}
 use Rattle.runner.specs.Answered.{Inside, Finished}
 use Rattle.runner.proofs.Actions.{few-fields, rule-room, default-room}
 
@@ -88,10 +88,10 @@ module _ (p r packet choices end : List ℕ) where
     pub room-there : count ≤ length end → F p ≤ length end
     room-there h = rw (← e) h
 
-    pub stands-end : (x : End) → Ends p choices x (pipelineRun p r packet choices) → Stands p (x .state)
+    pub stands-end : (x : End) → EndsAs p choices x (pipelineRun p r packet choices) → Stands p (x .state)
     stands-end x k = record { ready = ready p r (packetIn p (x .state)) accepted (k .within); few = few-fields p r accepted }
 
-    pub run-finishes : count ≤ length end → (x : End) → Ends p choices x (pipelineRun p r packet choices) → (a : Ran) (end′ : List ℕ)
+    pub run-finishes : count ≤ length end → (x : End) → EndsAs p choices x (pipelineRun p r packet choices) → (a : Ran) (end′ : List ℕ)
         → ((choices : List ℕ) → Finished (ended (outcomeBy (x .how) (stateIn p choices (x .state)))) end a end′) → Runs p r packet choices end a end′
     run-finishes h x k a end′ f =
         let is = run-gives p r accepted packet choices within (length end) (room-there h) ∙ ap ended (sym (k .outcome)) in
@@ -143,7 +143,7 @@ module _ (e : End) (count : ℕ) (p choices : List ℕ) (l : length choices ≡ 
   wrong-refused k = rw k
 
 module _ (p r packet choices : List ℕ) (accepted : Accepted p r) (within : Within (packetWidths p) packet) where
-  pub confirm-tells : (x : End) → Ends p choices x (pipelineRun p r packet choices) → (a : Confirmed) → ((q cs : List ℕ) → length cs ≡ length choices
+  pub confirm-tells : (x : End) → EndsAs p choices x (pipelineRun p r packet choices) → (a : Confirmed) → ((q cs : List ℕ) → length cs ≡ length choices
       → confirmed a ≡ told yesOrNo (after (ended (outcomeBy (x .how) (stateIn q cs (x .state)))) (λ y. done (failsWhole cs y)))) → Confirms p r packet choices a
   confirm-tells x k a f =
       let is = confirm-gives p r accepted packet choices within ∙ ap (λ o. after (ended o) (λ y. done (failsWhole choices y))) (sym (k .outcome)) in
@@ -156,7 +156,7 @@ module _ (p r packet : List ℕ) (accepted : Accepted p r) (t : ℕ) where
   lends w = fitting p r packet accepted w
 
   abbrev Found : Part → Type 0
-  Found x = x ≡ (if ltb t (T p) then partOf p r t (hit p r packet t) else Part.Empty)
+  Found x = x ≡ (if ltb t (T p) then partOf p r t (hit p r (start p packet [] .packet) t) else Part.Empty)
 
   module _ (count : ℕ) (e : count ≡ T p) where
     pub no-table : count ≤ t → Found Part.Empty
@@ -165,12 +165,12 @@ module _ (p r packet : List ℕ) (accepted : Accepted p r) (t : ℕ) where
     pub table-below : t < count → t < T p
     table-below l = rw (← e) l
 
-    module _ (l : t < count) (h : Hit) (d : h ≡ hit p r packet t) where
+    module _ (l : t < count) (h : Hit) (d : h ≡ hit p r (start p packet [] .packet) t) where
       pub rule-found : (i : ℕ) → h ≡ Hit.Rule i → (at : ℕ) → at ≡ callPlace r i → Found (Part.Rules at)
       rule-found i k at g = rw (lt-ltb t (T p) (rw (← e) l), ← d, k, g)
 
       pub rule-inside : (i : ℕ) → h ≡ Hit.Rule i → (at : ℕ) → at ≡ callPlace r i → Inside p r (Part.Rules at)
-      rule-inside i k at g = rule-room p r accepted packet h t i d k g
+      rule-inside i k at g = rule-room p r accepted (start p packet [] .packet) h t i d k g
 
       pub default-inside : (at : ℕ) → at ≡ defaultPlace p t → Inside p r (Part.Pipeline at)
       default-inside at g = default-room p r accepted t (table-below l) g
@@ -179,7 +179,7 @@ module _ (p r packet : List ℕ) (accepted : Accepted p r) (t : ℕ) where
       default-found k at g = rw (lt-ltb t (T p) (rw (← e) l), ← d, k, g)
 
 pub lookup-found : (p r packet : List ℕ) (a : Checked) → checked a ≡ told (λ _. []) (judge (startRows p r packet)) → a ≡ Checked.Accepted
-    → (t table : ℕ) → t ≡ table → (x : Part) → x ≡ (if ltb t (T p) then partOf p r t (hit p r packet t) else Part.Empty) → x ≡ lookup p r packet table
+    → (t table : ℕ) → t ≡ table → (x : Part) → x ≡ (if ltb t (T p) then partOf p r t (hit p r (start p packet [] .packet) t) else Part.Empty) → x ≡ lookup p r packet table
 unfolding lookup
 lookup-found p r packet a e d t table g x h = rw (told-done (judge (startRows p r packet)) (rw d at e), ← g) h
 

@@ -16,15 +16,15 @@ use Rattle.model.specs.Good.{Within, Good, GoodValue}
 use Rattle.model.specs.Runs.{run, noApply, passed, put}
 use Rattle.model.specs.declared.Bits.{Bits}
 use Rattle.model.proofs.Lists.{length-each}
-use Rattle.model.proofs.Fits.{Sized, sized}
-use Rattle.model.proofs.Within.{within-at, within-set}
+use Rattle.model.proofs.Within.{within-set}
 use Rattle.values.specs.Ready.{Ready}
 use Rattle.values.proofs.Ready.{field-below, field-width}
+use Rattle.values.proofs.Fits.{fit}
 use Rattle.runner.specs.declared.State.{State as Held}
 use Rattle.runner.specs.declared.Ending.{Ending}
 use Rattle.runner.specs.declared.End.{End}
 use Rattle.runner.specs.declared.Side.{Side}
-use Rattle.runner.specs.States.{packetIn, held, stateIn, outcomeBy, endOf, Ends, sideAt}
+use Rattle.runner.specs.States.{packetIn, held, stateIn, outcomeBy, endOf, EndsAs, sideAt}
 
 pub part-long : (n : ℕ) (ws : List ℕ) → n ≤ length ws → n ≡ length (take n ws)
 part-long n ws h = sym (length-take-le n ws h)
@@ -41,18 +41,15 @@ module _ (p : List ℕ) (s : Held) (h : Ready p (packetIn p s)) where
   lent e d = rw (d, e) h
 
   -- the run is where it was
-  stays : (choices : List ℕ) (how : Ending) (x : End) → x ≡ endOf s how → Ends p choices x (outcomeBy how (stateIn p choices s))
+  stays : (choices : List ℕ) (how : Ending) (x : End) → x ≡ endOf s how → EndsAs p choices x (outcomeBy how (stateIn p choices s))
   stays choices how x e = rw e (record { outcome = refl; within = h .within })
 
   -- a value of a field's width is put there
   stored : (choices : List ℕ) (f n used : ℕ) (x : End) → f < F p → n < 2 ^ getD (widths p) f 0 → x ≡ endOf (held (set (s .packet) f n) used) Ending.Passed
-      → Ends p choices x (passed (put (stateIn p choices (held (s .packet) used)) f n))
+      → EndsAs p choices x (passed (put (stateIn p choices (held (s .packet) used)) f n))
   stored choices f n used x l k d =
       let e : take (F p) (set (s .packet) f n) ≡ set (take (F p) (s .packet)) f n = take-set-lt (F p) (s .packet) f n l in
       rw d (record { outcome = rw e; within = rw e (within-set (widths p) (packetIn p s) f n (h .within) k) })
-
-  fields-sized : (i : ℕ) → i < length (widths p) → Sized (bitsIn (widths p) (packetIn p s) i) (getD (widths p) i 0)
-  fields-sized i l = record { wide = refl; below = within-at (widths p) (packetIn p s) (h .within) i }
 
   module _ (f : ℕ) (v : Val) (good : Good (widths p) 0 (Stmt.assign f v)) where
     pub assigns-value : GoodValue (widths p) v
@@ -68,12 +65,12 @@ module _ (p : List ℕ) (s : Held) (h : Ready p (packetIn p s)) where
 
     pub assigned : {count : ℕ} {ws : List ℕ} {y : Bits} {z : Held} (x : End) → count ≡ F p → ws ≡ take count (s .packet) → y ≡ bitsOf (bitsIn (widths p) ws) v
         → z ≡ held (set (s .packet) f (y .number)) (s .used) → x ≡ endOf z Ending.Passed
-        → (choices : List ℕ) → Ends p choices x (run (widths p) noApply (Stmt.assign f v) (stateIn p choices s))
+        → (choices : List ℕ) → EndsAs p choices x (run (widths p) noApply (Stmt.assign f v) (stateIn p choices s))
     unfolding run Good
     assigned x e d b g i choices =
-        let bits = sized (widths p) (bitsIn (widths p) (packetIn p s)) fields-sized v assigns-value in
+        let bits = fit h v assigns-value refl in
         let own : x ≡ endOf (held (set (s .packet) f (bitsOf (bitsIn (widths p) (packetIn p s)) v .number)) (s .used)) Ending.Passed = rw (i, g, b, d, e) in
-        stored choices f _ (s .used) x assigns-field (rw (← good .2) (bits .below)) own
+        stored choices f _ (s .used) x assigns-field (rw (← good .2, ← bits .wide) (bits .below)) own
 
   -- ---- a test
 
@@ -82,11 +79,11 @@ module _ (p : List ℕ) (s : Held) (h : Ready p (packetIn p s)) where
     truth-lent = rw (b, d, e)
 
     pub test-holds : u ≡ true → x ≡ endOf s Ending.Passed → (choices : List ℕ)
-        → Ends p choices x (outcomeBy (if truthOf (bitsIn (widths p) (packetIn p s)) t then Ending.Passed else how) (stateIn p choices s))
+        → EndsAs p choices x (outcomeBy (if truthOf (bitsIn (widths p) (packetIn p s)) t then Ending.Passed else how) (stateIn p choices s))
     test-holds q i choices = rw (truth-lent, q) (stays choices Ending.Passed x i)
 
     pub test-fails : u ≡ false → x ≡ endOf s how → (choices : List ℕ)
-        → Ends p choices x (outcomeBy (if truthOf (bitsIn (widths p) (packetIn p s)) t then Ending.Passed else how) (stateIn p choices s))
+        → EndsAs p choices x (outcomeBy (if truthOf (bitsIn (widths p) (packetIn p s)) t then Ending.Passed else how) (stateIn p choices s))
     test-fails q i choices = rw (truth-lent, q) (stays choices how x i)
 
   -- ---- a havoc
@@ -103,7 +100,7 @@ module _ (p : List ℕ) (s : Held) (h : Ready p (packetIn p s)) where
       width-narrow e = rw (e, ← field-width h there) (h .narrow f there .1)
 
       pub havoc-short : length choices ≤ s .used → (x : End) → x ≡ endOf s Ending.Short
-          → Ends p choices x (run (widths p) noApply (Stmt.havoc f) (stateIn p choices s))
+          → EndsAs p choices x (run (widths p) noApply (Stmt.havoc f) (stateIn p choices s))
       unfolding run
       havoc-short k x i = rw (drop-of-length-le choices k) (stays choices Ending.Short x i)
 
@@ -111,12 +108,12 @@ module _ (p : List ℕ) (s : Held) (h : Ready p (packetIn p s)) where
         fits-field : fits (getD (widths p) f 0) (word choices (s .used)) ≡ u
         fits-field = rw (field-width h there, ← e, ← d, b)
 
-        pub havoc-wrong : u ≡ false → (x : End) → x ≡ endOf s Ending.Wrong → Ends p choices x (run (widths p) noApply (Stmt.havoc f) (stateIn p choices s))
+        pub havoc-wrong : u ≡ false → (x : End) → x ≡ endOf s Ending.Wrong → EndsAs p choices x (run (widths p) noApply (Stmt.havoc f) (stateIn p choices s))
         unfolding run
         havoc-wrong q x i = rw (next-entry choices (s .used) k, fits-field, q) (stays choices Ending.Wrong x i)
 
         pub havoc-taken : u ≡ true → {y z : Held} → y ≡ held (set (s .packet) f entry) (s .used) → z ≡ held (y .packet) (y .used + 1)
-            → (x : End) → x ≡ endOf z Ending.Passed → Ends p choices x (run (widths p) noApply (Stmt.havoc f) (stateIn p choices s))
+            → (x : End) → x ≡ endOf z Ending.Passed → EndsAs p choices x (run (widths p) noApply (Stmt.havoc f) (stateIn p choices s))
         unfolding run
         havoc-taken q g j x i =
             let fit : entry < 2 ^ getD (widths p) f 0 = rw (field-width h there, ← e) (ltb-true entry (2 ^ w) (sym b ∙ q)) in
@@ -125,22 +122,22 @@ module _ (p : List ℕ) (s : Held) (h : Ready p (packetIn p s)) where
 
 -- ---- a choice's side
 
-module _ (choices : List ℕ) (used : ℕ) where
-  pub side-missing : length choices ≤ used → Side.Missing ≡ sideAt choices used
+module _ (choices : List ℕ) (used a b : ℕ) where
+  pub side-short : length choices ≤ used → Side.Short ≡ sideAt choices used a b
   unfolding sideAt
-  side-missing h = rw (le-ltb used (length choices) h)
+  side-short h = rw (le-ltb used (length choices) h)
 
   module _ (h : used < length choices) where
-    pub side-first : word choices used ≡ 0 → Side.First ≡ sideAt choices used
+    pub side-first : word choices used ≡ 0 → Side.Node a ≡ sideAt choices used a b
     unfolding sideAt
     side-first e = rw (lt-ltb used (length choices) h, e)
 
-    pub side-second : word choices used ≡ 1 → Side.Second ≡ sideAt choices used
+    pub side-second : word choices used ≡ 1 → Side.Node b ≡ sideAt choices used a b
     unfolding sideAt
     side-second e = rw (lt-ltb used (length choices) h, e)
 
-    pub side-wrong : (word choices used ≡ 0 → ⊥) → (word choices used ≡ 1 → ⊥) → Side.Wrong ≡ sideAt choices used
+    pub side-wrong : (word choices used ≡ 0 → ⊥) → (word choices used ≡ 1 → ⊥) → Side.Wrong ≡ sideAt choices used a b
     unfolding sideAt
     side-wrong d e = rw (lt-ltb used (length choices) h, ne-eqb (word choices used) 0 d, ne-eqb (word choices used) 1 e)
 
-pub ruleset sides = (side-missing, side-first, side-second, side-wrong)
+pub ruleset sides = (side-short, side-first, side-second, side-wrong)

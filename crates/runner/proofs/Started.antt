@@ -23,7 +23,7 @@ use Rattle.model.proofs.Refusals.{clear}
 use Rattle.model.proofs.Within.{within-of}
 use Rattle.model.proofs.SortWidths.{all-narrow}
 use Rattle.model.proofs.Accepted.{accepted-good}
-use Rattle.model.proofs.Passing.{told-done, told-refused, check-accepts}
+use Rattle.model.proofs.Passing.{told-done, check-accepts, check-refuses}
 use Rattle.blocks.specs.Whole.{Whole}
 
 -- ---- 11
@@ -72,10 +72,9 @@ module _ (p r packet : List ℕ) where
     start-on d b k = rw (judge-append (checkRows p r) (packetRows p packet), check-accepts p r (rw d at h)) k
 
     pub start-refuses : (x : Refusal) → a ≡ Checked.Refused x → refusalOf x ≡ told (λ _. []) (judge (startRows p r packet))
-    unfolding check
     start-refuses x d =
-        rw (judge-append (checkRows p r) (packetRows p packet))
-        (told-refused x (judge (checkRows p r)) (rw d at (h .answers)) (λ _. []) (λ _. judge (packetRows p packet)))
+        let f = check-refuses p r x (rw d at h) in
+        rw (judge-append (checkRows p r) (packetRows p packet), f .gives) (f .names)
 
   -- what an accepted start says
   module _ (a : Checked) (e : checked a ≡ told (λ _. []) (judge (startRows p r packet))) (d : a ≡ Checked.Accepted) where

@@ -4,7 +4,7 @@ use native.Mathlib.Numerals.{add-one}
 use native.Mathlib.Omega.{arith}
 use mathlib.Core.Path.{_≡_, refl, sym, ap, subst, _∙_}
 use mathlib.Core.Bool.{Bool, true, false}
-use mathlib.Core.Logic.{⊎-elim}
+use mathlib.Core.Logic.{_⊎_, inl, inr, ⊎-elim}
 use mathlib.Core.List.{List, [], _∷_}
 use borrow.Author.Tests.{ltb-true, ltb-false, eqb-true, eqb-false}
 use denote.Enum.Declared.{tagOf}
@@ -12,18 +12,17 @@ use types.Run.{OneOf}
 use lib.Dec.{eqb, ltb}
 use lib.ListN.{length, drop-of-length-le}
 use Rattle.model.specs.Lists.{if_then_else_, word}
-use Rattle.model.specs.Blocks.{F, N, A, T, R, widths, pipelineNode, body}
+use Rattle.model.specs.Blocks.{F, N, T, widths, pipelineNode, body}
 use Rattle.model.specs.Nodes.{kinds, kindIn}
 use Rattle.model.specs.Trees.{Tree, Stmt, asValue, asTest, asStatement, tree, treeBy, truthOf, bitsIn, called}
 use Rattle.model.specs.Tables.{hit, matches, callOf}
 use Rattle.model.specs.Good.{Within, Good, GoodTest}
-use Rattle.model.specs.Runs.{State, Outcome, state, refused, andThen, takeSide, run, noApply, packetWidths}
+use Rattle.model.specs.Runs.{State, Outcome, state, refused, andThen, takeSide, run, noApply}
 use Rattle.model.specs.Demands.{Accepted}
-use Rattle.model.specs.declared.Hit.{Hit}
 use Rattle.model.specs.declared.Kind.{Kind}
 use Rattle.model.specs.declared.Node.{Node}
 use Rattle.model.proofs.Children.{BeforeAll}
-use Rattle.model.proofs.Accepted.{rows, call-fits, table-fits, rule-fits, accepted-good}
+use Rattle.model.proofs.Accepted.{accepted-good}
 use Rattle.model.proofs.Hits.{hit-below}
 use Rattle.model.proofs.Kind as kinds-type
 use Rattle.values.specs.Ready.{Ready}
@@ -36,43 +35,38 @@ use Rattle.runner.specs.declared.End.{End}
 use Rattle.runner.specs.declared.Side.{Side}
 use Rattle.runner.specs.declared.Action.{Action}
 use Rattle.runner.specs.declared.Scope.{Scope}
-use Rattle.runner.specs.States.{packetIn, held, stateIn, outcomeBy, endOf, Stands, Ends, sideOf, sideAt, Calls, tablesIn, statementOf, runOf, Runnable}
+use Rattle.runner.specs.States.{packetIn, held, stateIn, outcomeBy, endOf, Stands, EndsAs, sideOf, sideAt, Calls, tablesIn, statementOf, runOf, Runnable}
 use Rattle.runner.proofs.Ending as ending
 use Rattle.runner.proofs.Leaves.{next-entry}
-use Rattle.runner.proofs.Actions.{few-fields}
+use Rattle.runner.proofs.Actions.{few-fields, hit-fits}
 
--- a body's nodes come after all of the program's, since a run goes from an apply into a body and never back
+-- a node of the program is above every node inside a body, since a run goes from an apply into a body and never back
 abbrev pub depth : Bool → List ℕ → ℕ → ℕ
 depth true p n = n
 depth false p n = N p + n
 
 -- what is known where node n, with the measure t, has been read
-pub record Here (p r : List ℕ) (scope : Scope) (s : Held) (n t : ℕ) (node : Node) (a b : ℕ) (kind : Kind) : Type 0 where
+pub record Here (p r : List ℕ) (scope : Scope) (s : Held) (n t : ℕ) (node : Node) (kind : Kind) : Type 0 where
   pub start : depth (scope .inside) p n ≡ t
   pub can : Runnable p r scope s n
   pub read : node ≡ pipelineNode p n
-  pub first : a ≡ node .a
-  pub second : b ≡ node .b
   pub isKind : kind ≡ kindIn kinds (node .kind)
 
 -- what a run of node j asks
 abbrev pub Ask : List ℕ → List ℕ → Scope → Held → ℕ → ℕ → Type 0
 Ask p r scope s t j = (depth (scope .inside) p j < t) × Runnable p r scope s j
 
--- the action that is called is there, and its body is well formed with the data
-hit-fits : (p r : List ℕ) → Accepted p r → (x : Hit) (t : ℕ) → ((i : ℕ) → x ≡ Hit.Rule i → i < R r) → t < T p
-    → (callOf p r t x .action < A p) × Good (widths p) 0 (called p (callOf p r t x))
-hit-fits p r accepted (Hit.Rule i) t below l =
-    let k = below i refl in
-    (call-fits p (callOf p r t (Hit.Rule i)) (rule-fits p r (rows p r accepted) i k .2) .0, accepted-good p r accepted .ruleGood i k t)
-hit-fits p r accepted Hit.Default t below l =
-    (call-fits p (callOf p r t Hit.Default) (table-fits p r (rows p r accepted) t l .2) .0, accepted-good p r accepted .defaultGood t l)
-
 deeper : (inside : Bool) (p : List ℕ) {j n : ℕ} → j < n → depth inside p j < depth inside p n
 deeper true p l = l
 deeper false p l = omega arith
 
-module _ {p r : List ℕ} {scope : Scope} {s : Held} {n t : ℕ} {node : Node} {a b : ℕ} {kind : Kind} (h : Here p r scope s n t node a b kind) where
+module _ {p r : List ℕ} {scope : Scope} {s : Held} {n t : ℕ} {node : Node} {kind : Kind} (h : Here p r scope s n t node kind) where
+  abbrev a : ℕ
+  a = node .a
+
+  abbrev b : ℕ
+  b = node .b
+
   abbrev statement : ℕ → Stmt
   statement = statementOf p scope
 
@@ -90,15 +84,15 @@ module _ {p r : List ℕ} {scope : Scope} {s : Held} {n t : ℕ} {node : Node} {
     own = sym e ∙ h .isKind ∙ ap (λ (x : Node). kindIn kinds (x .kind)) (h .read)
 
     children : BeforeAll n k a b (node .c)
-    children = rw (h .first, h .second, h .read, own) (node-before p (stands .ready .below) n (h .can .below))
+    children = rw (h .read, own) (node-before p (stands .ready .below) n (h .can .below))
 
     is : tree p (scope .given) n ≡ treeIs k
-    is = rw (h .first, h .second, h .read, own) (tree-at p (stands .ready .below) (scope .given) n (h .can .below))
+    is = rw (h .read, own) (tree-at p (stands .ready .below) (scope .given) n (h .can .below))
 
     good-by : Good (widths p) tables (asStatement (treeIs k))
     good-by = rw (← is) (h .can .good)
 
-  child : (z : Held) → Within (packetWidths p) (packetIn p z) → (j : ℕ) → j < n → Good (widths p) tables (statement j) → Ask p r scope z t j
+  child : (z : Held) → Within (widths p) (packetIn p z) → (j : ℕ) → j < n → Good (widths p) tables (statement j) → Ask p r scope z t j
   child z w j l g =
       (rw (← h .start) (deeper (scope .inside) p l), record { accepted = h .can .accepted; within = w; below = omega (arith, h .can .below); good = g })
 
@@ -124,18 +118,9 @@ module _ {p r : List ℕ} {scope : Scope} {s : Held} {n t : ℕ} {node : Node} {
   unfolding Good
   left-asks e = child s (h .can .within) a (children _ e .0) (good-by _ e .0)
 
-  pub right-asks : kind ≡ Kind.Sequence → (z : Held) → Within (packetWidths p) (packetIn p z) → Ask p r scope z t b
+  pub right-asks : kind ≡ Kind.Sequence → (z : Held) → Within (widths p) (packetIn p z) → Ask p r scope z t b
   unfolding Good
   right-asks e z w = child z w b (children _ e .1) (good-by _ e .1)
-
-  module _ (e : kind ≡ Kind.Choice) (z : Held) (d : z ≡ held (s .packet) (s .used + 1)) where
-    pub first-asks : Ask p r scope z t a
-    unfolding Good
-    first-asks = child z (rw d (h .can .within)) a (children _ e .0) (good-by _ e .0)
-
-    pub second-asks : Ask p r scope z t b
-    unfolding Good
-    second-asks = child z (rw d (h .can .within)) b (children _ e .1) (good-by _ e .1)
 
   only-outside : (inside : Bool) → a < tablesIn inside p → (inside ≡ false) × (a < T p)
   only-outside true l = let k : ⊥ = omega arith in absurd k
@@ -166,13 +151,13 @@ module _ {p r : List ℕ} {scope : Scope} {s : Held} {n t : ℕ} {node : Node} {
 
   module _ (choices : List ℕ) where
     abbrev Gives : End → Type 0
-    Gives x = Ends p choices x (runOf p r scope n (stateIn p choices s))
+    Gives x = EndsAs p choices x (runOf p r scope n (stateIn p choices s))
 
-    pub assign-gives : kind ≡ Kind.Assign → (x : End) → ((choices : List ℕ) → Ends p choices x (run (widths p) noApply (Stmt.assign a (asValue (tree p (scope .given) b))) (stateIn p choices s))) → Gives x
+    pub assign-gives : kind ≡ Kind.Assign → (x : End) → ((choices : List ℕ) → EndsAs p choices x (run (widths p) noApply (Stmt.assign a (asValue (tree p (scope .given) b))) (stateIn p choices s))) → Gives x
     unfolding run
     assign-gives e x g = rw (is _ e) (g choices)
 
-    pub havoc-gives : kind ≡ Kind.Havoc → (x : End) → Ends p choices x (run (widths p) noApply (Stmt.havoc a) (stateIn p choices s)) → Gives x
+    pub havoc-gives : kind ≡ Kind.Havoc → (x : End) → EndsAs p choices x (run (widths p) noApply (Stmt.havoc a) (stateIn p choices s)) → Gives x
     unfolding run
     havoc-gives e x g = rw (is _ e) g
 
@@ -182,7 +167,7 @@ module _ {p r : List ℕ} {scope : Scope} {s : Held} {n t : ℕ} {node : Node} {
       told-by false how = refl
 
       abbrev Tests : Ending → Type 0
-      Tests how = (choices : List ℕ) → Ends p choices x
+      Tests how = (choices : List ℕ) → EndsAs p choices x
           (outcomeBy (if truthOf (bitsIn (widths p) (packetIn p s)) (asTest (tree p (scope .given) a)) then Ending.Passed else how) (stateIn p choices s))
 
       pub assume-gives : kind ≡ Kind.Assume → Tests (Ending.Blocked n) → Gives x
@@ -201,11 +186,11 @@ module _ {p r : List ℕ} {scope : Scope} {s : Held} {n t : ℕ} {node : Node} {
     stays Ending.Short z go o = refl
     stays Ending.Wrong z go o = refl
 
-    abbrev Runs : End → ℕ → State → Type 0
-    Runs x j z = Ends p choices x (runOf p r scope j z)
+    abbrev RunsTo : End → ℕ → State → Type 0
+    RunsTo x j z = EndsAs p choices x (runOf p r scope j z)
 
-    module _ (e : kind ≡ Kind.Sequence) (x : End) (l : Runs x a (stateIn p choices s)) where
-      pub sequence-gives : x .how ≡ Ending.Passed → (y : End) → Runs y b (stateIn p choices (x .state)) → Gives y
+    module _ (e : kind ≡ Kind.Sequence) (x : End) (l : RunsTo x a (stateIn p choices s)) where
+      pub sequence-gives : x .how ≡ Ending.Passed → (y : End) → RunsTo y b (stateIn p choices (x .state)) → Gives y
       unfolding run
       sequence-gives d y g = rw (is _ e, ← l .outcome, d) g
 
@@ -219,49 +204,56 @@ module _ {p r : List ℕ} {scope : Scope} {s : Held} {n t : ℕ} {node : Node} {
 
     -- what a side that is told says of the list
     abbrev Told : Side → Type 0
-    Told Side.First = (s .used < length choices) × (word choices (s .used) ≡ 0)
-    Told Side.Second = (s .used < length choices) × (word choices (s .used) ≡ 1)
+    Told (Side.Node j) = (s .used < length choices) × (((word choices (s .used) ≡ 0) × (j ≡ a)) ⊎ ((word choices (s .used) ≡ 1) × (j ≡ b)))
     Told Side.Wrong = (s .used < length choices) × (2 ≤ word choices (s .used))
-    Told Side.Missing = length choices ≤ s .used
+    Told Side.Short = length choices ≤ s .used
 
-    side-told : Told (sideAt choices (s .used))
+    side-told : Told (sideAt choices (s .used) a b)
     unfolding sideAt
     side-told = there (ltb (s .used) (length choices)) refl
       where
         entry : (x : ℕ) → x ≡ word choices (s .used) → s .used < length choices → (y z : Bool) → eqb x 0 ≡ y → eqb x 1 ≡ z
-            → Told (if y then Side.First else if z then Side.Second else Side.Wrong)
-        entry x e l true z d g = (l, sym e ∙ eqb-true x 0 d)
-        entry x e l false true d g = (l, sym e ∙ eqb-true x 1 g)
+            → Told (if y then Side.Node a else if z then Side.Node b else Side.Wrong)
+        entry x e l true z d g = (l, inl (sym e ∙ eqb-true x 0 d, refl))
+        entry x e l false true d g = (l, inr (sym e ∙ eqb-true x 1 g, refl))
         entry x e l false false d g = (l, omega (arith, e, eqb-false x 0 d, eqb-false x 1 g))
 
-        there : (y : Bool) → ltb (s .used) (length choices) ≡ y → Told (if y then sideOf (word choices (s .used)) else Side.Missing)
-        there true e = entry (word choices (s .used)) refl (ltb-true (s .used) (length choices) e) (eqb (word choices (s .used)) 0) (eqb (word choices (s .used)) 1) refl refl
+        there : (y : Bool) → ltb (s .used) (length choices) ≡ y → Told (if y then sideOf a b (word choices (s .used)) else Side.Short)
+        there true e =
+            let x = word choices (s .used) in
+            entry x refl (ltb-true (s .used) (length choices) e) (eqb x 0) (eqb x 1) refl refl
         there false e = ltb-false (s .used) (length choices) e
 
-    module _ (side : Side) (d : side ≡ sideAt choices (s .used)) where
+    module _ (side : Side) (d : side ≡ sideAt choices (s .used) a b) where
       is-told : (q : Side) → side ≡ q → Told q
       is-told q g = subst Told (sym d ∙ g) side-told
-
-      pub first-fits : length choices < 2 ^ 64 → side ≡ Side.First → s .used + 1 < 2 ^ 64
-      first-fits k g = omega (arith, is-told _ g .0)
-
-      pub second-fits : length choices < 2 ^ 64 → side ≡ Side.Second → s .used + 1 < 2 ^ 64
-      second-fits k g = omega (arith, is-told _ g .0)
 
       wrong-entry : (entry : ℕ) (x y : State → Outcome) (z : State) → 2 ≤ entry → takeSide (s .used) entry x y z ≡ refused 15 (s .used)
       wrong-entry zero x y z l = let k : ⊥ = omega arith in absurd k
       wrong-entry (suc zero) x y z l = let k : ⊥ = omega arith in absurd k
       wrong-entry (suc (suc entry)) x y z l = refl
 
+      module _ (j : ℕ) (g : side ≡ Side.Node j) where
+        pub side-fits : length choices < 2 ^ 64 → s .used + 1 < 2 ^ 64
+        side-fits k = omega (arith, is-told _ g .0)
+
+        module _ (e : kind ≡ Kind.Choice) (z : Held) (i : z ≡ held (s .packet) (s .used + 1)) where
+          pub side-asks : Ask p r scope z t j
+          unfolding Good
+          side-asks =
+              let w : Within (widths p) (packetIn p z) = rw i (h .can .within) in
+              ⊎-elim (λ q. rw (q .1) (child z w a (children _ e .0) (good-by _ e .0))) (λ q. rw (q .1) (child z w b (children _ e .1) (good-by _ e .1)))
+              (is-told _ g .1)
+
+          pub side-gives : (x : End) → RunsTo x j (stateIn p choices z) → Gives x
+          unfolding run
+          side-gives x l =
+              let q = is-told _ g in
+              let f = rw i at l in
+              ⊎-elim (λ k. rw (is _ e, next-entry choices (s .used) (q .0), k .0, ← add-one (s .used)) (rw (k .1) at f))
+              (λ k. rw (is _ e, next-entry choices (s .used) (q .0), k .0, ← add-one (s .used)) (rw (k .1) at f)) (q .1)
+
       module _ (e : kind ≡ Kind.Choice) where
-        pub first-gives : side ≡ Side.First → (z : Held) → z ≡ held (s .packet) (s .used + 1) → (x : End) → Runs x a (stateIn p choices z) → Gives x
-        unfolding run
-        first-gives g z i x l = let q = is-told _ g in rw (is _ e, next-entry choices (s .used) (q .0), q .1, ← add-one (s .used)) (rw i at l)
-
-        pub second-gives : side ≡ Side.Second → (z : Held) → z ≡ held (s .packet) (s .used + 1) → (x : End) → Runs x b (stateIn p choices z) → Gives x
-        unfolding run
-        second-gives g z i x l = let q = is-told _ g in rw (is _ e, next-entry choices (s .used) (q .0), q .1, ← add-one (s .used)) (rw i at l)
-
         pub wrong-gives : side ≡ Side.Wrong → (x : End) → x ≡ endOf s Ending.Wrong → Gives x
         unfolding run
         wrong-gives g x i =
@@ -272,12 +264,12 @@ module _ {p r : List ℕ} {scope : Scope} {s : Held} {n t : ℕ} {node : Node} {
               within = h .can .within;
             })
 
-        pub missing-gives : side ≡ Side.Missing → (x : End) → x ≡ endOf s Ending.Short → Gives x
+        pub short-gives : side ≡ Side.Short → (x : End) → x ≡ endOf s Ending.Short → Gives x
         unfolding run
-        missing-gives g x i = rw i (record { outcome = rw (is _ e, drop-of-length-le choices (is-told _ g)); within = h .can .within })
+        short-gives g x i = rw i (record { outcome = rw (is _ e, drop-of-length-le choices (is-told _ g)); within = h .can .within })
 
     module _ (e : kind ≡ Kind.Apply) (x : Action) (c : Calls p x (callOf p r a (hit p r (packetIn p s) a))) where
-      pub apply-gives : (y : End) → Ends p choices y (runOf p r (x .scope) (x .body) (stateIn p choices s)) → Gives y
+      pub apply-gives : (y : End) → EndsAs p choices y (runOf p r (x .scope) (x .body) (stateIn p choices s)) → Gives y
       unfolding run
       apply-gives y g = rw (is _ e, outside e .0) (rw (c .inside, called-is e x c) at g)
 
@@ -288,4 +280,4 @@ module _ {p r : List ℕ} {scope : Scope} {s : Held} {n t : ℕ} {node : Node} {
         let skip : statement n ≡ Stmt.skip = ap asStatement (is _ refl) ∙ skips-on (scope .given) (tree p (scope .given)) n kind a b (node .c) o in
         rw (i, skip) (record { outcome = refl; within = h .can .within })
 
-pub ruleset run-gives = (assign-gives, havoc-gives, assume-gives, assert-gives, sequence-gives, sequence-ends, first-gives, second-gives, wrong-gives, missing-gives, apply-gives, rest-gives)
+pub ruleset arm-gives = (assign-gives, havoc-gives, assume-gives, assert-gives, sequence-gives, sequence-ends, side-gives, wrong-gives, short-gives, apply-gives, rest-gives)

@@ -1,6 +1,5 @@
 -- From the packet that is lent to the run of the pipeline. Assumes nothing.
-use Prim.Native.Nat.{ℕ, _≤_}
-use native.Mathlib.Omega.{arith}
+use Prim.Native.Nat.{ℕ}
 use mathlib.Core.Path.{_≡_, sym, ap, _∙_}
 use mathlib.Core.Bool.{false}
 use mathlib.Core.List.{List, [], _∷_}
@@ -9,39 +8,40 @@ use lib.Seq.{take-append-seam}
 use Rattle.model.specs.Blocks.{F, root, widths}
 use Rattle.model.specs.Trees.{asStatement, tree}
 use Rattle.model.specs.Good.{Within}
-use Rattle.model.specs.Runs.{run, runTable, packetWidths, pipelineRun}
+use Rattle.model.specs.Runs.{State, state, run, runTable, packetWidths, start, pipelineRun}
 use Rattle.model.specs.Calls.{over}
 use Rattle.model.specs.Demands.{Accepted}
 use Rattle.model.proofs.Within.{within-length}
 use Rattle.model.proofs.Accepted.{accepted-good}
 use Rattle.runner.specs.declared.State.{State as Held}
 use Rattle.runner.specs.declared.End.{End}
-use Rattle.runner.specs.States.{packetIn, stateIn, Ends, Runnable, Begun}
+use Rattle.runner.specs.States.{held, stateIn, EndsAs, Runnable}
 
-pub begun : (packet ws before : List ℕ) → ws ≡ over packet before → take (length packet) ws ≡ packet
-begun packet ws before e = rw e (take-append-seam packet (drop (length packet) before))
+-- the packet stands at the start of the 32 words
+pub started : (p packet ws before : List ℕ) → ws ≡ over packet before → length packet ≡ F p → (choices : List ℕ)
+    → stateIn p choices (held ws 0) ≡ start p packet choices
+started p packet ws before e d choices =
+    let words : take (F p) ws ≡ packet = ap (λ n. take n ws) (sym d) ∙ ap (take (length packet)) e ∙ take-append-seam packet (drop (length packet) before) in
+    ap (λ xs. state xs choices 0) words
 
 module _ (p r packet : List ℕ) (accepted : Accepted p r) (within : Within (packetWidths p) packet) where
-  packet-long : length packet ≡ F p
+  pub packet-long : length packet ≡ F p
   packet-long = within-length (widths p) packet within ∙ accepted-good p r accepted .widthsLength
 
-  pub packet-few : length packet ≤ 32
-  packet-few = omega (arith, packet-long, accepted-good p r accepted .counts .mostFields)
+  -- the packet that a run starts with is within the fields' widths
+  pub start-within : (choices : List ℕ) → Within (widths p) (start p packet choices .packet)
+  start-within choices = within
 
-  module _ (s : Held) (b : Begun packet s) where
-    begins : packetIn p s ≡ packet
-    begins = ap (λ n. take n (s .packet)) (sym packet-long) ∙ b .fields
+  module _ (s : Held) (b : (choices : List ℕ) → stateIn p choices s ≡ start p packet choices) (x n : ℕ) (e : x ≡ root p) (d : n ≡ x) where
+    pub root-runs : Runnable p r (record { inside = false; given = 0 ∷ 0 ∷ [] }) s n
+    root-runs = record {
+      accepted = accepted;
+      within = rw (ap (λ (z : State). z .packet) (b [])) (start-within []);
+      below = rw (d, e) (accepted-good p r accepted .rootBelow);
+      good = rw (d, e) (accepted-good p r accepted .programGood);
+    }
 
-    module _ (x n : ℕ) (e : x ≡ root p) (d : n ≡ x) where
-      pub root-runs : Runnable p r (record { inside = false; given = 0 ∷ 0 ∷ [] }) s n
-      root-runs = record {
-        accepted = accepted;
-        within = rw begins within;
-        below = rw (d, e) (accepted-good p r accepted .rootBelow);
-        good = rw (d, e) (accepted-good p r accepted .programGood);
-      }
-
-      pub runs-whole : (choices : List ℕ) (y : End) → Ends p choices y (run (widths p) (runTable p r) (asStatement (tree p (0 ∷ 0 ∷ []) n)) (stateIn p choices s))
-          → Ends p choices y (pipelineRun p r packet choices)
-      unfolding pipelineRun
-      runs-whole choices y h = rw (← begins, ← e, ← d) (rw (b .used) at h)
+    pub runs-whole : (choices : List ℕ) (y : End) → EndsAs p choices y (run (widths p) (runTable p r) (asStatement (tree p (0 ∷ 0 ∷ []) n)) (stateIn p choices s))
+        → EndsAs p choices y (pipelineRun p r packet choices)
+    unfolding pipelineRun
+    runs-whole choices y h = rw (← b choices, ← e, ← d) h

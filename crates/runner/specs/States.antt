@@ -9,7 +9,7 @@ use Rattle.model.specs.Lists.{if_then_else_, word}
 use Rattle.model.specs.Blocks.{F, N, T, widths, Call, body}
 use Rattle.model.specs.Trees.{Stmt, asStatement, tree}
 use Rattle.model.specs.Good.{Within, Good}
-use Rattle.model.specs.Runs.{State, state, Outcome, passed, blocked, failed, refused, run, noApply, runTable, packetWidths}
+use Rattle.model.specs.Runs.{State, state, Outcome, passed, blocked, failed, refused, run, noApply, runTable}
 use Rattle.model.specs.Demands.{Accepted}
 use Rattle.values.specs.Ready.{Ready}
 use Rattle.runner.specs.declared.State.{State as Held}
@@ -45,17 +45,17 @@ pub record Stands (p : List ℕ) (s : Held) : Type 0 where
   pub ready : Ready p (packetIn p s)
   pub few : F p ≤ 32
 
--- the packet stays within its widths
-pub record Ends (p choices : List ℕ) (e : End) (o : Outcome) : Type 0 where
+-- an ending stands for an outcome; the packet is still within the fields' widths
+pub record EndsAs (p choices : List ℕ) (e : End) (o : Outcome) : Type 0 where
   pub outcome : outcomeBy (e .how) (stateIn p choices (e .state)) ≡ o
-  pub within : Within (packetWidths p) (packetIn p (e .state))
+  pub within : Within (widths p) (packetIn p (e .state))
 
--- which side the next entry takes
-abbrev pub sideOf : ℕ → Side
-sideOf entry = if eqb entry 0 then Side.First else if eqb entry 1 then Side.Second else Side.Wrong
+-- the side that an entry takes, of nodes a and b; that of the next entry
+abbrev pub sideOf : ℕ → ℕ → ℕ → Side
+sideOf a b entry = if eqb entry 0 then Side.Node a else if eqb entry 1 then Side.Node b else Side.Wrong
 
-unfoldable pub sideAt : List ℕ → ℕ → Side
-sideAt choices used = if ltb used (length choices) then sideOf (word choices used) else Side.Missing
+unfoldable pub sideAt : List ℕ → ℕ → ℕ → ℕ → Side
+sideAt choices used a b = if ltb used (length choices) then sideOf a b (word choices used) else Side.Short
 
 -- the body of the action that is called, with its data
 pub record Calls (p : List ℕ) (a : Action) (c : Call) : Type 0 where
@@ -81,11 +81,6 @@ runOf p r scope n = run (widths p) (onApply (scope .inside) p r) (statementOf p 
 -- node n is a statement that may run there
 pub record Runnable (p r : List ℕ) (scope : Scope) (s : Held) (n : ℕ) : Type 0 where
   pub accepted : Accepted p r
-  pub within : Within (packetWidths p) (packetIn p s)
+  pub within : Within (widths p) (packetIn p s)
   pub below : n < N p
   pub good : Good (widths p) (tablesIn (scope .inside) p) (statementOf p scope n)
-
--- the state that a run starts from
-pub record Begun (packet : List ℕ) (s : Held) : Type 0 where
-  pub fields : take (length packet) (s .packet) ≡ packet
-  pub used : s .used ≡ 0

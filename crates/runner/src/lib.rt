@@ -8,24 +8,22 @@ use model::Part;
 use model::Ran;
 use model::Refusal;
 ghost use mathlib.Core.Path.{_≡_};
-ghost use mathlib.Core.Bool.{true};
 ghost use mathlib.Core.List.{List, []};
 ghost use lib.Dec.{ltb};
 ghost use Prim.Native.Nat.{ℕ, _+_, _≤_, _<_, _^_};
 ghost use lib.ListN.{length, take, set};
-ghost use Rattle.bits.specs.Width.{fits};
 ghost use Rattle.model.specs.Lists.{if_then_else_, word, part};
-ghost use Rattle.model.specs.Blocks.{F, N, A as actions, T, widths, width, body, callAt};
+ghost use Rattle.model.specs.Blocks.{F, N, A as actions, T, widths, callAt};
 ghost use Rattle.model.specs.Trees.{Stmt, asValue, asTest, tree, truthOf, bitsIn};
 ghost use Rattle.model.specs.Tables.{hit, partOf, callOf};
 ghost use Rattle.model.specs.Good.{Within, GoodTest, Good};
-ghost use Rattle.model.specs.Runs.{run, put, packetWidths, pipelineRun, noApply};
+ghost use Rattle.model.specs.Runs.{run, packetWidths, start, pipelineRun, noApply};
 ghost use Rattle.model.specs.Answers.{done, after, told, yesOrNo, checked, confirmed};
 ghost use Rattle.model.specs.Refusals.{judge, packetRows};
 ghost use Rattle.model.specs.Calls.{over, startRows, lookup, wordsInto, LooksUp, ended, Runs, failsWhole, Confirms};
 ghost use Rattle.model.specs.Demands.{Accepted};
 ghost use Rattle.blocks.specs.Whole.{Whole};
-ghost use Rattle.runner.specs.States.{packetIn, stateIn, outcomeBy, Stands, Ends, sideAt, held, endOf, Calls, Runnable, runOf, Begun};
+ghost use Rattle.runner.specs.States.{packetIn, stateIn, outcomeBy, Stands, EndsAs, sideAt, held, endOf, Calls, Runnable, runOf};
 ghost use Rattle.runner.specs.Answered.{Inside, Finished};
 
 // Where a run stands: the packet in the first F words, and how many entries were used.
@@ -48,7 +46,7 @@ pub struct End {
     pub how: Ending,
 }
 
-fn ended(s: State, how: Ending) -> End
+fn end_of(s: State, how: Ending) -> End
     ensures { λ e. ⌜ e ≡ endOf s how ⌝ }
 {
     End { state: s, how: how }
@@ -92,12 +90,12 @@ fn assign(p: &[u32], given: &[u32; 2], s: State, f: usize, v: usize) -> End
     requires { ⌜ Stands (now p) s ⌝ }
     requires { ⌜ v < N (now p) ⌝ }
     requires { ⌜ Good (widths (now p)) 0 (Stmt.assign f (asValue (tree (now p) (now given) v))) ⌝ }
-    ensures { λ e. ⌜ ((choices : List ℕ) → Ends (now (p .entry)) choices e
+    ensures { λ e. ⌜ ((choices : List ℕ) → EndsAs (now (p .entry)) choices e
         (run (widths (now (p .entry))) noApply (Stmt.assign f (asValue (tree (now (p .entry)) (now (given .entry)) v))) (stateIn (now (p .entry)) choices s))) ⌝ }
 {
     let count = blocks::field_count(p);
     let x = values::bits_at(p, given, fields(&s.packet, count), v);
-    ended(stored(s, f, x.number), Ending::Passed)
+    end_of(stored(s, f, x.number), Ending::Passed)
 }
 
 // The run goes on where the test of node t holds, and else ends so.
@@ -105,15 +103,15 @@ fn tested(p: &[u32], given: &[u32; 2], s: State, t: usize, how: Ending) -> End
     requires { ⌜ Stands (now p) s ⌝ }
     requires { ⌜ t < N (now p) ⌝ }
     requires { ⌜ GoodTest (widths (now p)) (asTest (tree (now p) (now given) t)) ⌝ }
-    ensures { λ e. ⌜ ((choices : List ℕ) → Ends (now (p .entry)) choices e
+    ensures { λ e. ⌜ ((choices : List ℕ) → EndsAs (now (p .entry)) choices e
         (outcomeBy (if truthOf (bitsIn (widths (now (p .entry))) (packetIn (now (p .entry)) s)) (asTest (tree (now (p .entry)) (now (given .entry)) t)) then Ending.Passed else how)
         (stateIn (now (p .entry)) choices s))) ⌝ }
 {
     let count = blocks::field_count(p);
     if values::truth_at(p, given, fields(&s.packet, count), t) {
-        ended(s, Ending::Passed)
+        end_of(s, Ending::Passed)
     } else {
-        ended(s, how)
+        end_of(s, how)
     }
 }
 
@@ -121,38 +119,37 @@ fn tested(p: &[u32], given: &[u32; 2], s: State, t: usize, how: Ending) -> End
 fn havoc(p: &[u32], choices: &[u32], s: State, f: usize) -> End
     requires { ⌜ Stands (now p) s ⌝ }
     requires { ⌜ f < F (now p) ⌝ }
-    ensures { λ e. ⌜ Ends (now (p .entry)) (now (choices .entry)) e
+    ensures { λ e. ⌜ EndsAs (now (p .entry)) (now (choices .entry)) e
         (run (widths (now (p .entry))) noApply (Stmt.havoc f) (stateIn (now (p .entry)) (now (choices .entry)) s)) ⌝ }
 {
     let used = s.used;
     if choices.len() <= used {
-        return ended(s, Ending::Short);
+        return end_of(s, Ending::Short);
     }
     let entry = choices[used];
     if bits::fits(blocks::width(p, f), entry) {
-        ended(taken(stored(s, f, entry)), Ending::Passed)
+        end_of(taken(stored(s, f, entry)), Ending::Passed)
     } else {
-        ended(s, Ending::Wrong)
+        end_of(s, Ending::Wrong)
     }
 }
 
-// What the next entry says of a choice's side.
+// What the next entry says of a choice: the side that runs, or that there is none.
 pub enum Side {
-    First,
-    Second,
+    Node(usize),
     Wrong,
-    Missing,
+    Short,
 }
 
-fn next_side(choices: &[u32], used: usize) -> Side
-    ensures { λ r. ⌜ r ≡ sideAt (now (choices .entry)) used ⌝ }
+fn next_side(choices: &[u32], used: usize, a: usize, b: usize) -> Side
+    ensures { λ r. ⌜ r ≡ sideAt (now (choices .entry)) used a b ⌝ }
 {
     if choices.len() <= used {
-        return Side::Missing;
+        return Side::Short;
     }
     match choices[used] {
-        0 => Side::First,
-        1 => Side::Second,
+        0 => Side::Node(a),
+        1 => Side::Node(b),
         _ => Side::Wrong,
     }
 }
@@ -175,13 +172,13 @@ fn action_at(p: &[u32], ws: &[u32], at: usize) -> Action
     requires { ⌜ word (now ws) at < actions (now p) ⌝ }
     ensures { λ a. ⌜ Calls (now (p .entry)) a (callAt (now (ws .entry)) at) ⌝ }
 {
-    let action = blocks::wide(ws[at]);
+    let action = ws[at] as usize;
     let scope = Scope {
         inside: true,
         given: [ws[at + 1], ws[at + 2]],
     };
     Action {
-        body: blocks::wide(blocks::body(p, action)),
+        body: blocks::body(p, action) as usize,
         scope: scope,
     }
 }
@@ -202,12 +199,12 @@ fn action_of(p: &[u32], r: &[u32], s: State, t: usize) -> Action
 // The run of the statement at node n.
 fn run_at(p: &[u32], r: &[u32], choices: &[u32], scope: Scope, s: State, n: usize) -> End
     requires { ⌜ Runnable (now p) (now r) scope s n ⌝ }
-    ensures { λ e. ⌜ Ends (now (p .entry)) (now (choices .entry)) e
+    ensures { λ e. ⌜ EndsAs (now (p .entry)) (now (choices .entry)) e
         (runOf (now (p .entry)) (now (r .entry)) scope n (stateIn (now (p .entry)) (now (choices .entry)) s)) ⌝ }
 {
     let node = blocks::node(p, n);
-    let a = blocks::wide(node.a);
-    let b = blocks::wide(node.b);
+    let a = node.a as usize;
+    let b = node.b as usize;
     match nodes::kind_in(node.kind) {
         Kind::Assign => assign(p, &scope.given, s, a, b),
         Kind::Havoc => havoc(p, choices, s, a),
@@ -223,24 +220,25 @@ fn run_at(p: &[u32], r: &[u32], choices: &[u32], scope: Scope, s: State, n: usiz
                 e
             }
         }
-        Kind::Choice => match next_side(choices, s.used) {
-            Side::First => run_at(p, r, choices, scope, taken(s), a),
-            Side::Second => run_at(p, r, choices, scope, taken(s), b),
-            Side::Wrong => ended(s, Ending::Wrong),
-            Side::Missing => ended(s, Ending::Short),
+        Kind::Choice => match next_side(choices, s.used, a, b) {
+            Side::Node(j) => run_at(p, r, choices, scope, taken(s), j),
+            Side::Wrong => end_of(s, Ending::Wrong),
+            Side::Short => end_of(s, Ending::Short),
         },
         Kind::Apply => {
             let action = action_of(p, r, s, a);
             run_at(p, r, choices, action.scope, s, action.body)
         }
-        _ => ended(s, Ending::Passed),
+        _ => end_of(s, Ending::Passed),
     }
 }
 
 // The state that a run starts from.
-fn begin(packet: &[u32]) -> State
-    requires { ⌜ length (now packet) ≤ 32 ⌝ }
-    ensures { λ s. ⌜ Begun (now (packet .entry)) s ⌝ }
+fn start(p: &[u32], packet: &[u32]) -> State
+    requires { ⌜ Whole (now p) ⌝ }
+    requires { ⌜ length (now packet) ≡ F (now p) ⌝ }
+    requires { ⌜ F (now p) ≤ 32 ⌝ }
+    ensures { λ s. ⌜ ((choices : List ℕ) → stateIn (now (p .entry)) choices s ≡ start (now (p .entry)) (now (packet .entry)) choices) ⌝ }
 {
     let mut words = [0; 32];
     areas::put(packet, &mut words);
@@ -254,17 +252,17 @@ fn begin(packet: &[u32]) -> State
 fn run_whole(p: &[u32], r: &[u32], packet: &[u32], choices: &[u32]) -> End
     requires { ⌜ Accepted (now p) (now r) ⌝ }
     requires { ⌜ Within (packetWidths (now p)) (now packet) ⌝ }
-    ensures { λ e. ⌜ Ends (now (p .entry)) (now (choices .entry)) e (pipelineRun (now (p .entry)) (now (r .entry)) (now (packet .entry)) (now (choices .entry))) ⌝ }
+    ensures { λ e. ⌜ EndsAs (now (p .entry)) (now (choices .entry)) e (pipelineRun (now (p .entry)) (now (r .entry)) (now (packet .entry)) (now (choices .entry))) ⌝ }
 {
     let program = Scope {
         inside: false,
         given: [0; 2],
     };
-    let root = blocks::wide(blocks::root(p));
-    run_at(p, r, choices, program, begin(packet), root)
+    let root = blocks::root(p) as usize;
+    run_at(p, r, choices, program, start(p, packet), root)
 }
 
-// 11, for a pipeline that is accepted.
+// 11, for fields of 1 to 32 bits.
 fn check_packet(p: &[u32], packet: &[u32]) -> Checked
     requires { ⌜ Whole (now p) ⌝ }
     requires { ⌜ ((i : ℕ) → word (widths (now p)) i ≤ 32) ⌝ }
@@ -282,7 +280,7 @@ fn check_packet(p: &[u32], packet: &[u32]) -> Checked
 }
 
 // 2 to 11: what Lookup, Run and Confirm begin with.
-fn start(p: &[u32], r: &[u32], packet: &[u32]) -> Checked
+fn check_start(p: &[u32], r: &[u32], packet: &[u32]) -> Checked
     ensures { λ a. ⌜ checked a ≡ told (λ _. []) (judge (startRows (now (p .entry)) (now (r .entry)) (now (packet .entry)))) ⌝ }
 {
     match checker::check(p, r) {
@@ -292,20 +290,20 @@ fn start(p: &[u32], r: &[u32], packet: &[u32]) -> Checked
 }
 
 // Where the three words stand that Lookup answers.
-pub fn part_of(pipeline: &[u32], rules: &[u32], packet: &[u32], table: u32) -> Part
+pub fn lookup_part(pipeline: &[u32], rules: &[u32], packet: &[u32], table: u32) -> Part
     ensures { λ x. ⌜ x ≡ lookup (now (pipeline .entry)) (now (rules .entry)) (now (packet .entry)) table ⌝ }
     ensures { λ x. ⌜ Inside (now (pipeline .entry)) (now (rules .entry)) x ⌝ }
 {
-    match start(pipeline, rules, packet) {
-        Checked::Accepted => part_started(pipeline, rules, packet, blocks::wide(table)),
+    match check_start(pipeline, rules, packet) {
+        Checked::Accepted => lookup_started(pipeline, rules, packet, table as usize),
         Checked::Refused(_) => Part::Empty,
     }
 }
 
-fn part_started(p: &[u32], r: &[u32], packet: &[u32], t: usize) -> Part
+fn lookup_started(p: &[u32], r: &[u32], packet: &[u32], t: usize) -> Part
     requires { ⌜ Accepted (now p) (now r) ⌝ }
     requires { ⌜ Within (packetWidths (now p)) (now packet) ⌝ }
-    ensures { λ x. ⌜ x ≡ (if ltb t (T (now (p .entry))) then partOf (now (p .entry)) (now (r .entry)) t (hit (now (p .entry)) (now (r .entry)) (now (packet .entry)) t) else Part.Empty) ⌝ }
+    ensures { λ x. ⌜ x ≡ (if ltb t (T (now (p .entry))) then partOf (now (p .entry)) (now (r .entry)) t (hit (now (p .entry)) (now (r .entry)) (start (now (p .entry)) (now (packet .entry)) [] .packet) t) else Part.Empty) ⌝ }
     ensures { λ x. ⌜ Inside (now (p .entry)) (now (r .entry)) x ⌝ }
 {
     if blocks::table_count(p) <= t {
@@ -331,7 +329,7 @@ fn three(ws: &[u32], at: usize) -> &[u32]
 pub fn lookup<'a>(pipeline: &'a [u32], rules: &'a [u32], packet: &[u32], table: u32) -> &'a [u32]
     ensures { λ x. ⌜ LooksUp (pipeline .entry) (rules .entry) (now (packet .entry)) table x ⌝ }
 {
-    match part_of(pipeline, rules, packet, table) {
+    match lookup_part(pipeline, rules, packet, table) {
         Part::Rules(at) => three(rules, at),
         Part::Pipeline(at) => three(pipeline, at),
         Part::Empty => &pipeline[..0],
@@ -396,7 +394,7 @@ fn run_started(p: &[u32], r: &[u32], packet: &[u32], choices: &[u32], end: &mut 
 pub fn run(pipeline: &[u32], rules: &[u32], packet: &[u32], choices: &[u32], end: &mut [u32]) -> Ran
     ensures { λ a. ⌜ Runs (now (pipeline .entry)) (now (rules .entry)) (now (packet .entry)) (now (choices .entry)) (now (end .entry)) a (now (end .exit)) ⌝ }
 {
-    match start(pipeline, rules, packet) {
+    match check_start(pipeline, rules, packet) {
         Checked::Accepted => run_started(pipeline, rules, packet, choices, end),
         Checked::Refused(why) => Ran::Refused(why),
     }
@@ -429,7 +427,7 @@ fn judged(e: End, count: usize) -> Confirmed
 pub fn confirm(pipeline: &[u32], rules: &[u32], packet: &[u32], choices: &[u32]) -> Confirmed
     ensures { λ a. ⌜ Confirms (now (pipeline .entry)) (now (rules .entry)) (now (packet .entry)) (now (choices .entry)) a ⌝ }
 {
-    match start(pipeline, rules, packet) {
+    match check_start(pipeline, rules, packet) {
         Checked::Accepted => judged(run_whole(pipeline, rules, packet, choices), choices.len()),
         Checked::Refused(why) => Confirmed::Refused(why),
     }

@@ -6,14 +6,13 @@ use mathlib.Core.List.{List}
 use lib.ListN.{length}
 use Rattle.model.specs.Blocks.{F, T, R, width, widths, keyCount, key, tableOf}
 use Rattle.model.specs.Good.{Within}
-use Rattle.model.specs.Runs.{packetWidths}
 use Rattle.model.specs.Demands.{Accepted}
 use Rattle.model.proofs.Lists.{length-each}
 use Rattle.model.proofs.Within.{within-length}
 use Rattle.model.proofs.Accepted.{rows, counts, table-fits, rule-fits}
 use Rattle.tables.specs.Fitting.{Fitting}
 
-pub fitting : (p r packet : List ℕ) → Accepted p r → Within (packetWidths p) packet → Fitting p r packet
+pub fitting : (p r packet : List ℕ) → Accepted p r → Within (widths p) packet → Fitting p r packet
 fitting p r packet e h =
     let checked = rows p r e in
     let sized = within-length (widths p) packet h ∙ length-each (width p) (F p) in

@@ -7,10 +7,10 @@ use mathlib.Core.List.{List}
 use borrow.Author.Tests.{eq-eqb, ne-eqb}
 use Rattle.model.specs.Lists.{if_then_else_}
 use Rattle.model.specs.Blocks.{R, tableOf}
-use Rattle.model.specs.Tables.{matches, triedBefore, tried, firstThat, hit}
+use Rattle.model.specs.Tables.{matches, triedBefore, tried, firstThat, hit, ofTable}
 use Rattle.model.specs.declared.Hit.{Hit}
 use Rattle.model.proofs.Hits.{first-has}
-use Rattle.tables.specs.Scan.{orderedTo, ofTable, hitTo, precedes}
+use Rattle.tables.specs.Scan.{orderedTo, hitTo, precedes}
 use Rattle.tables.proofs.Order.{tried-order, to-none, to-below, to-other, first-own}
 
 module _ (p r packet : List ℕ) (t : ℕ) where

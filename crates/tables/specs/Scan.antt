@@ -2,11 +2,10 @@
 use Prim.Native.Nat.{ℕ}
 use mathlib.Core.Bool.{Bool, true}
 use mathlib.Core.List.{List}
-use lib.Dec.{eqb}
 use Rattle.bits.specs.Width as bits
 use Rattle.model.specs.Lists.{each, those, word}
-use Rattle.model.specs.Blocks.{key, tableOf, value, mask}
-use Rattle.model.specs.Tables.{matches, triedBefore, ordered, firstThat}
+use Rattle.model.specs.Blocks.{key, value, mask}
+use Rattle.model.specs.Tables.{matches, triedBefore, ofTable, ordered, firstThat}
 use Rattle.model.specs.declared.Hit.{Hit}
 
 -- key j of rule i, whose table is t, matches
@@ -16,10 +15,6 @@ keyMatches p r packet i t j = bits.under (mask r i j) (value r i j) (word packet
 -- those below n that belong, in the order that `before` says
 unfoldable pub orderedTo : (ℕ → ℕ → Bool) → (ℕ → Bool) → ℕ → List ℕ
 orderedTo before own n = ordered before (those own (each (λ i. i) n))
-
--- rule i is one of table t's
-abbrev pub ofTable : List ℕ → ℕ → ℕ → Bool
-ofTable r t i = eqb (tableOf r i) t
 
 -- which of the rules of table t below n hits
 unfoldable pub hitTo : List ℕ → List ℕ → List ℕ → ℕ → ℕ → Hit

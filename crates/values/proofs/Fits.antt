@@ -1,15 +1,14 @@
 -- The bits of a good value are as wide as it says, fit that width, and have at most 32 of them. Assumes nothing.
 use Prim.Native.Nat.{ℕ, _^_, _<_, _≤_}
 use native.Mathlib.Omega.{arith}
-use mathlib.Core.Path.{_≡_, refl}
+use mathlib.Core.Path.{_≡_}
 use mathlib.Core.List.{List}
 use Rattle.model.specs.Blocks.{widths}
 use Rattle.model.specs.Trees.{Val, bitsOf, bitsIn}
 use Rattle.model.specs.Good.{widthOfValue, GoodValue}
 use Rattle.model.specs.declared.Bits.{Bits}
 use Rattle.model.proofs.GoodForms.{AllWidths}
-use Rattle.model.proofs.Within.{within-at}
-use Rattle.model.proofs.Fits.{sized}
+use Rattle.model.proofs.Fits.{numbers-sized, sized}
 use Rattle.values.specs.Ready.{Ready}
 
 module _ (ws : List ℕ) (all : AllWidths ws) where
@@ -31,5 +30,5 @@ pub record Fit (x : Bits) (w : ℕ) : Type 0 where
 pub fit : {p packet : List ℕ} → Ready p packet → {x : Bits} (v : Val) → GoodValue (widths p) v → x ≡ bitsOf (bitsIn (widths p) packet) v
     → Fit x (widthOfValue (widths p) v)
 fit {p} {packet} r v g e =
-    let s = sized (widths p) (bitsIn (widths p) packet) (λ i _. record { wide = refl; below = within-at (widths p) packet (r .within) i }) v g in
+    let s = sized (widths p) (bitsIn (widths p) packet) (λ i _. numbers-sized (widths p) packet (r .within) i) v g in
     rw e (record { wide = s .wide; narrow = rw (s .wide) (value-narrow (widths p) (r .narrow) v g); below = rw (s .wide) (s .below) })

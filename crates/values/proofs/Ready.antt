@@ -4,7 +4,6 @@ use mathlib.Core.Path.{_≡_}
 use mathlib.Core.List.{List}
 use lib.ListN.{getD, length}
 use Rattle.model.specs.Blocks.{F, width, widths}
-use Rattle.model.specs.Runs.{packetWidths}
 use Rattle.model.specs.Good.{Within}
 use Rattle.model.specs.Demands.{Accepted}
 use Rattle.model.proofs.Lists.{length-each, each-at}
@@ -13,7 +12,7 @@ use Rattle.model.proofs.Accepted.{accepted-good}
 use Rattle.model.proofs.Uses.{accepted-children}
 use Rattle.values.specs.Ready.{Ready}
 
-pub ready : (p r packet : List ℕ) → Accepted p r → Within (packetWidths p) packet → Ready p packet
+pub ready : (p r packet : List ℕ) → Accepted p r → Within (widths p) packet → Ready p packet
 ready p r packet e h =
     let good = accepted-good p r e in
     record { whole = good .counts .pipelineWords; below = accepted-children p r e; narrow = good .widthsGood; within = h }

@@ -1,6 +1,6 @@
-// Bits of a width, and the evaluators of values and of tests, which read a pipeline block's nodes in place.
+// Bits of a width; the evaluators of values and of tests, which read a pipeline block's nodes in place; the first number that is too wide.
 use bits::Op;
-use blocks::word_or_zero;
+use blocks::word_in;
 use model::Bits;
 use model::Comparison;
 use model::Connective;
@@ -95,7 +95,7 @@ pub fn bits_at(p: &[u32], given: &[u32; 2], packet: &[u32], n: usize) -> Bits
     match nodes::kind_in(node.kind) {
         Kind::Constant => of_width(node.b, node.a),
         Kind::Field => field_bits(p, packet, node.a),
-        Kind::Parameter => of_width(node.b, word_or_zero(given, node.a)),
+        Kind::Parameter => of_width(node.b, word_in(given, node.a)),
         Kind::Binary(op) => {
             let x = bits_at(p, given, packet, a);
             let y = bits_at(p, given, packet, b);

@@ -12,7 +12,7 @@ sort-by-spec = tie.close (tie.spec
     (λ c κs. search needs)  -- constant-sort-requires
     (λ c. search needs)  -- enum-told-2
     (λ c κs. search needs)  -- below-requires
-    (λ c κs. search needs)  -- word-or-zero-requires
+    (λ c κs. search needs)  -- word-in-requires
     (λ c κs. let s = c .before .before .before .before .before in omega (arith, s .pre .1 (s .args .n .a)))  -- value-code-requires
     (λ c κs. search needs)  -- only-requires
     (λ c. search needs)  -- enum-told-3
@@ -48,7 +48,7 @@ sort-by-spec = tie.close (tie.spec
     (λ c. search needs)  -- enum-told-13
     (λ c. search needs)  -- enum-told-14
     (λ c κs. search needs)  -- below-requires-2
-    (λ c κs. search needs)  -- word-or-zero-requires-2
+    (λ c κs. search needs)  -- word-in-requires-2
     (λ c κs. let s = c .before .before .before .before .before in omega (arith, s .pre .1 (s .args .n .a)))  -- value-code-requires-2
     (λ c κs. search needs)  -- alike-requires-4
     (λ c κs. search needs)  -- both-requires-3

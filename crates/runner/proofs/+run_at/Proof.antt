@@ -1,19 +1,18 @@
--- The proof of the cycle of calls {run_at}: the measure is the node's number, and an apply's is above every body's. Assumes nothing.
+-- The proof of the cycle of calls {run_at}: the measure is the node's number, and a node of the program is above every body's. Assumes nothing.
 use Prim.Native.Nat.{ℕ, _<_}
 use borrow.Author.Needs.{needs}
 use borrow.Fn.Kinds.{In}
 use borrow.Fn.PlainCycle.{Measures, is, falls, and}
 use Rattle.runner.proofs.Actions.{whole}
-use Rattle.runner.proofs.Steps.{depth, Here, stands, assign-asks, havoc-asks, assume-asks, assert-asks, left-asks, right-asks, first-asks, second-asks, first-fits, second-fits, apply-asks, body-asks, run-gives}
+use Rattle.runner.proofs.Steps.{depth, Here, stands, assign-asks, havoc-asks, assume-asks, assert-asks, left-asks, right-asks, side-fits, side-asks, apply-asks, body-asks, arm-gives}
 use Rattle.runner.proofs.run_at.Reads as run-at
 use Rattle.runner.proofs.run_at.Kinds as run-at-kinds
 use Rattle.runner.proofs.+run_at.Lts-run_at as lts
 use Rattle.blocks.proofs.node.Reads as node
-use Rattle.blocks.proofs.wide.Reads as wide
 use Rattle.nodes.proofs.kind_in.Reads as kind-in
 use Rattle.runner.proofs.action_of.Reads as action-of
 use Rattle.runner.proofs.assign.Reads as assign
-use Rattle.runner.proofs.ended.Reads as ended
+use Rattle.runner.proofs.end_of.Reads as end-of
 use Rattle.runner.proofs.havoc.Reads as havoc
 use Rattle.runner.proofs.next_side.Reads as next-side
 use Rattle.runner.proofs.taken.Reads as taken
@@ -33,29 +32,22 @@ run-at-below t = and 3 run-at-kinds.ps (falls 3 run-at-kinds.ps _<_ μ t) run-at
 
 -- what it knows of the functions that it calls
 abbrev calls : ℕ → lts.Claims
-calls t = (node.Asked, node.Learnt, wide.Asked, wide.Learnt, kind-in.Asked, kind-in.Learnt, assign.Asked, assign.Learnt, havoc.Asked, havoc.Learnt, tested.Asked, tested.Learnt, run-at-below t, run-at.Post, next-side.Asked, next-side.Learnt, taken.Asked, taken.Learnt, ended.Asked, ended.Learnt, action-of.Asked, action-of.Learnt)
+calls t = (node.Asked, node.Learnt, kind-in.Asked, kind-in.Learnt, assign.Asked, assign.Learnt, havoc.Asked, havoc.Learnt, tested.Asked, tested.Learnt, run-at-below t, run-at.Post, next-side.Asked, next-side.Learnt, taken.Asked, taken.Learnt, end-of.Asked, end-of.Learnt, action-of.Asked, action-of.Learnt)
 
 -- what is known where the node has been read
 here : (t : ℕ) (c : lts.After-kind-in (calls t) (run-at-at t) run-at.Post)
     → let s = c .before .before .before .before .before .before .before in
-    Here (s .args .p .now) (s .args .r .now) (s .args .t4) (s .args .s) (s .args .n) t (c .before .before .before .node .result) (c .before .before .wide .result) (c .before .wide2 .result) (c .kind-in .result)
+    Here (s .args .p .now) (s .args .r .now) (s .args .t4) (s .args .s) (s .args .n) t (c .before .before .before .node .result) (c .kind-in .result)
 here t c =
     let s = c .before .before .before .before .before .before .before in
-    record {
-      start = s .pre .0;
-      can = s .pre .1;
-      read = c .before .before .before .node .ensures;
-      first = c .before .before .wide .ensures;
-      second = c .before .wide2 .ensures;
-      isKind = c .kind-in .ensures;
-    }
+    record { start = s .pre .0; can = s .pre .1; read = c .before .before .before .node .ensures; isKind = c .kind-in .ensures }
 
 pub +run-at-spec : {M : Type 1} → statement M
 +run-at-spec = close μ
     (λ t. lts.spec (calls t) (run-at-at t) run-at.Post
     (λ c κs. search (needs, whole))  -- node-requires
-    (λ c κs. search needs)  -- wide-requires
-    (λ c κs. search needs)  -- wide-requires-2
+    (λ c. search needs)  -- cast-a
+    (λ c. search needs)  -- cast-b
     (λ c κs. search needs)  -- kind-in-requires
     (λ c. search needs)  -- enum-told
     (λ c κs. let h = here t (c .before .before .before .before) in (stands h, assign-asks h (c .before .before .enum-told .given .1)))  -- assign-requires
@@ -71,29 +63,25 @@ pub +run-at-spec : {M : Type 1} → statement M
     (λ c κs. right-asks (here t (c .before .before .before .before .before .before)) (c .before .before .before .before .enum-told5 .given .1) (c .before .before .before .run-at .result .state) (c .before .before .before .run-at .ensures .within))  -- run-at-requires-2
     (λ c. search needs)  -- enum-told-7
     (λ c κs. search needs)  -- next-side-requires
+    (λ c. search needs)  -- enum-known-j
+    (λ c κs. search (side-fits, here t (c .before .before .before .before .before .before)))  -- taken-requires
+    (λ c κs. side-asks (here t (c .before .before .before .before .before .before .before)) _ _ (c .before .before .before .before .next-side .ensures) _ (c .before .before .j .given .1) (c .before .before .before .before .before .enum-told7 .given .1) _ (c .taken .ensures))  -- run-at-requires-3
     (λ c. search needs)  -- enum-told-8
-    (λ c κs. search (first-fits, here t (c .before .before .before .before .before)))  -- taken-requires
-    (λ c κs. first-asks (here t (c .before .before .before .before .before .before)) (c .before .before .before .before .enum-told7 .given .1) _ (c .taken .ensures))  -- run-at-requires-3
+    (λ c κs. search needs)  -- end-of-requires
     (λ c. search needs)  -- enum-told-9
-    (λ c κs. search (second-fits, here t (c .before .before .before .before .before)))  -- taken-requires-2
-    (λ c κs. second-asks (here t (c .before .before .before .before .before .before)) (c .before .before .before .before .enum-told7 .given .1) _ (c .taken2 .ensures))  -- run-at-requires-4
+    (λ c κs. search needs)  -- end-of-requires-2
     (λ c. search needs)  -- enum-told-10
-    (λ c κs. search needs)  -- ended-requires
-    (λ c. search needs)  -- enum-told-11
-    (λ c κs. search needs)  -- ended-requires-2
-    (λ c. search needs)  -- enum-told-12
-    (λ c κs. let h = here t (c .before .before) in (h .can .accepted, (stands h, apply-asks h (c .enum-told12 .given .1))))  -- action-of-requires
-    (λ c κs. body-asks (here t (c .before .before .before)) (c .before .enum-told12 .given .1) _ (c .action-of .ensures))  -- run-at-requires-5
-    (λ c κs. search needs)  -- ended-requires-3
-    (λ c. search (run-gives, here t (c .before .before .before .before .before)))  -- returns
-    (λ c. search (run-gives, here t (c .before .before .before)))  -- returns-2
-    (λ c. search (run-gives, here t (c .before .before .before .before .before)))  -- returns-3
-    (λ c. search (run-gives, here t (c .before .before .before .before .before)))  -- returns-4
-    (λ c. search (run-gives, here t (c .before .before .before .before .before .before .before)))  -- returns-5
-    (λ c. search (run-gives, here t (c .before .before .before .before)))  -- returns-6
-    (λ c. search (run-gives, here t (c .before .before .before .before .before .before .before)))  -- returns-7
-    (λ c. search (run-gives, here t (c .before .before .before .before .before .before .before)))  -- returns-8
-    (λ c. search (run-gives, here t (c .before .before .before .before .before .before)))  -- returns-9
-    (λ c. search (run-gives, here t (c .before .before .before .before .before .before)))  -- returns-10
-    (λ c. search (run-gives, here t (c .before .before .before .before)))  -- returns-11
-    (λ c. search (run-gives, here t (c .before .before))))  -- returns-12
+    (λ c κs. let h = here t (c .before .before) in (h .can .accepted, (stands h, apply-asks h (c .enum-told10 .given .1))))  -- action-of-requires
+    (λ c κs. body-asks (here t (c .before .before .before)) (c .before .enum-told10 .given .1) _ (c .action-of .ensures))  -- run-at-requires-4
+    (λ c κs. search needs)  -- end-of-requires-3
+    (λ c. search (arm-gives, here t (c .before .before .before .before .before)))  -- returns
+    (λ c. search (arm-gives, here t (c .before .before .before)))  -- returns-2
+    (λ c. search (arm-gives, here t (c .before .before .before .before .before)))  -- returns-3
+    (λ c. search (arm-gives, here t (c .before .before .before .before .before)))  -- returns-4
+    (λ c. search (arm-gives, here t (c .before .before .before .before .before .before .before)))  -- returns-5
+    (λ c. search (arm-gives, here t (c .before .before .before .before)))  -- returns-6
+    (λ c. search (arm-gives, here t (c .before .before .before .before .before .before .before .before)))  -- returns-7
+    (λ c. search (arm-gives, here t (c .before .before .before .before .before .before)))  -- returns-8
+    (λ c. search (arm-gives, here t (c .before .before .before .before .before .before)))  -- returns-9
+    (λ c. search (arm-gives, here t (c .before .before .before .before)))  -- returns-10
+    (λ c. search (arm-gives, here t (c .before .before))))  -- returns-11

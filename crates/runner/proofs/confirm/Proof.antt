@@ -7,7 +7,7 @@ use Rattle.runner.proofs.confirm.Tie as tie
 
 pub confirm-spec : {M : Type 1} → statement M
 confirm-spec = tie.close (tie.spec
-    (λ c κs. search needs)  -- start-requires
+    (λ c κs. search needs)  -- check-start-requires
     (λ c. search needs)  -- enum-told
     (λ c κs. search (started-accepted, started-within))  -- run-whole-requires
     (λ c κs. search needs)  -- judged-requires

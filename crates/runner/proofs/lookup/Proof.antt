@@ -6,7 +6,7 @@ use Rattle.runner.proofs.lookup.Tie as tie
 
 pub lookup-spec : {M : Type 1} → statement M
 lookup-spec = tie.close (tie.spec
-    (λ c κs. search needs)  -- part-of-requires
+    (λ c κs. search needs)  -- lookup-part-requires
     (λ c. search needs)  -- enum-known-at
     (λ c κs. search rules-room)  -- three-requires
     (λ c. search needs)  -- enum-known-at-2

@@ -7,7 +7,7 @@ use Rattle.runner.proofs.run.Tie as tie
 
 pub run-spec : {M : Type 1} → statement M
 run-spec = tie.close (tie.spec
-    (λ c κs. search needs)  -- start-requires
+    (λ c κs. search needs)  -- check-start-requires
     (λ c. search needs)  -- enum-told
     (λ c κs. search (started-accepted, started-within))  -- run-started-requires
     (λ c. search needs)  -- enum-known-why

@@ -1,14 +1,11 @@
 -- `runner::start` meets its contract. Assumes nothing.
-use Rattle.runner.proofs.Started.{check-whole, check-narrow, start-on, start-refuses}
+use Rattle.runner.proofs.Whole.{started}
 use borrow.Author.Needs.{needs}
 use Rattle.runner.proofs.start.Statement.{statement}
 use Rattle.runner.proofs.start.Tie as tie
 
 pub start-spec : {M : Type 1} → statement M
 start-spec = tie.close (tie.spec
-    (λ c κs. search needs)  -- check-requires
-    (λ c. search needs)  -- enum-told
-    (λ c κs. search (check-whole, check-narrow))  -- check-packet-requires
-    (λ c. search needs)  -- enum-known-why
-    (λ c. search start-on)  -- returns
-    (λ c. search start-refuses))  -- returns-2
+    (λ c. search needs)  -- slice-aggregate-put
+    (λ c κs. search needs)  -- put-requires
+    (λ c. search started))  -- returns

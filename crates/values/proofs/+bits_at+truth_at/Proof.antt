@@ -21,7 +21,7 @@ use Rattle.values.proofs.binary_bits.Reads as binary
 use Rattle.values.proofs.compare_bits.Reads as compare
 use Rattle.values.proofs.complement_bits.Reads as complement
 use Rattle.values.proofs.connected.Reads as connected
-use Rattle.blocks.proofs.word_or_zero.Reads as word-or-zero
+use Rattle.blocks.proofs.word_in.Reads as word-in
 use Rattle.values.proofs.field_bits.Reads as field
 use Rattle.values.proofs.join_bits.Reads as join
 use Rattle.values.proofs.of_width.Reads as of-width
@@ -59,8 +59,8 @@ value-calls t = (
   of-width.Learnt,
   field.Asked,
   field.Learnt,
-  word-or-zero.Asked,
-  word-or-zero.Learnt,
+  word-in.Asked,
+  word-in.Learnt,
   value-below t,
   value.Post,
   binary.Asked,
@@ -122,7 +122,7 @@ unfolding GoodValue bitsOf
     (λ c. search needs)  -- enum-told-2
     (λ c κs. let h = value-here t (c .before .before) (c .enum-told2 .given .1) in (h .ready, h .good))  -- field-bits-requires
     (λ c. search needs)  -- enum-told-3
-    (λ c κs. search needs)  -- word-or-zero-requires
+    (λ c κs. search needs)  -- word-in-requires
     (λ c κs. search needs)  -- of-width-requires-2
     (λ c. search needs)  -- enum-known-op
     (λ c κs. let h = value-here t (c .before .before .before) (c .before .op .given .1) in child h ValueOf (h .before .0) (h .good .0))  -- bits-at-requires
@@ -145,7 +145,7 @@ unfolding GoodValue bitsOf
     (λ c κs. search needs)  -- of-width-requires-3
     (λ c. let h = value-here t (c .before .before .before) (c .before .enum-told .given .1) in rw (h .is) (c .of-width .ensures))  -- returns
     (λ c. let h = value-here t (c .before .before .before) (c .before .enum-told2 .given .1) in rw (h .is) (c .field-bits .ensures))  -- returns-2
-    (λ c. let h = value-here t (c .before .before .before .before .before) (c .before .before .before .enum-told3 .given .1) in rw (h .is, ← c .before .word-or-zero .ensures) (c .of-width2 .ensures))  -- returns-3
+    (λ c. let h = value-here t (c .before .before .before .before .before) (c .before .before .before .enum-told3 .given .1) in rw (h .is, ← c .before .word-in .ensures) (c .of-width2 .ensures))  -- returns-3
     (λ c. let h = value-here t (c .before .before .before .before .before .before) (c .before .before .before .before .op .given .1) in rw (h .is, ← c .before .before .bits-at .ensures, ← c .before .bits-at2 .ensures) (c .binary-bits .ensures))  -- returns-4
     (λ c. let h = value-here t (c .before .before .before .before) (c .before .before .enum-told4 .given .1) in rw (h .is, ← c .before .bits-at3 .ensures) (c .complement-bits .ensures))  -- returns-5
     (λ c. let h = value-here t (c .before .before .before .before) (c .before .before .enum-told5 .given .1) in rw (h .is, ← c .before .bits-at4 .ensures) (c .slice-bits .ensures))  -- returns-6

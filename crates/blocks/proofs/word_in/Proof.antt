@@ -1,12 +1,12 @@
--- `blocks::word_or_zero` meets its contract. Assumes nothing.
+-- `blocks::word_in` meets its contract. Assumes nothing.
 use mathlib.Core.Path.{sym}
 use lib.ListN.{List·getD-eq-default}
 use borrow.Author.Needs.{needs}
-use Rattle.blocks.proofs.word_or_zero.Statement.{statement}
-use Rattle.blocks.proofs.word_or_zero.Tie as tie
+use Rattle.blocks.proofs.word_in.Statement.{statement}
+use Rattle.blocks.proofs.word_in.Tie as tie
 
-pub word-or-zero-spec : {M : Type 1} → statement M
-word-or-zero-spec = tie.close (tie.spec
+pub word-in-spec : {M : Type 1} → statement M
+word-in-spec = tie.close (tie.spec
     (λ c. search needs)  -- mul-result
     (λ c. search needs)  -- shared-slice-read-result
     (λ c. search needs)  -- returns

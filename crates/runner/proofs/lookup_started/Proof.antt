@@ -1,12 +1,12 @@
--- `runner::part_started` meets its contract. Assumes nothing.
+-- `runner::lookup_started` meets its contract. Assumes nothing.
 use Rattle.runner.proofs.Actions.{whole, rule-below}
 use Rattle.runner.proofs.Answered.{lends, no-table, table-below, rule-found, default-found, rule-inside, default-inside}
 use borrow.Author.Needs.{needs}
-use Rattle.runner.proofs.part_started.Statement.{statement}
-use Rattle.runner.proofs.part_started.Tie as tie
+use Rattle.runner.proofs.lookup_started.Statement.{statement}
+use Rattle.runner.proofs.lookup_started.Tie as tie
 
-pub part-started-spec : {M : Type 1} → statement M
-part-started-spec = tie.close (tie.spec
+pub lookup-started-spec : {M : Type 1} → statement M
+lookup-started-spec = tie.close (tie.spec
     (λ c κs. search whole)  -- table-count-requires
     (λ c. search (needs, no-table))  -- returns
     (λ c κs. search lends)  -- hit-requires
