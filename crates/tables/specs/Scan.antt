@@ -3,7 +3,8 @@ use Prim.Native.Nat.{ℕ}
 use mathlib.Core.Bool.{Bool, true}
 use mathlib.Core.List.{List}
 use Rattle.bits.specs.Width as bits
-use Rattle.model.specs.Lists.{each, those, word}
+use lib.Dec.{ltb}
+use Rattle.model.specs.Lists.{if_then_else_, each, those, word}
 use Rattle.model.specs.Blocks.{key, value, mask}
 use Rattle.model.specs.Tables.{matches, triedBefore, ofTable, ordered, firstThat}
 use Rattle.model.specs.declared.Hit.{Hit}
@@ -24,3 +25,7 @@ hitTo p r packet t n = firstThat (matches p r packet) (orderedTo (triedBefore r)
 abbrev pub precedes : (ℕ → ℕ → Bool) → ℕ → Hit → Bool
 precedes before i (Hit.Rule j) = before i j
 precedes before i Hit.Default = true
+
+-- what a number below the count of the rules stands for, and any other
+abbrev pub hitFrom : ℕ → ℕ → Hit
+hitFrom count n = if ltb n count then Hit.Rule n else Hit.Default

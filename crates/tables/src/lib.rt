@@ -1,11 +1,11 @@
 // Which rule of a table hits a packet. Only `tried_before` knows the order in which rules are tried.
 use model::Hit;
 ghost use mathlib.Core.Path.{_≡_};
-ghost use Prim.Native.Nat.{ℕ, _+_, _<_};
+ghost use Prim.Native.Nat.{_+_, _<_};
 ghost use Rattle.model.specs.Blocks.{R, keyCount, tableOf};
 ghost use Rattle.model.specs.Tables.{matches, triedBefore, hit};
 ghost use Rattle.tables.specs.Fitting.{Fitting};
-ghost use Rattle.tables.specs.Scan.{keyMatches, precedes, hitTo};
+ghost use Rattle.tables.specs.Scan.{keyMatches, precedes, hitTo, hitFrom};
 
 fn table_of(r: &[u32], i: usize) -> usize
     requires { ⌜ i < R (now r) ⌝ }
@@ -55,28 +55,25 @@ pub fn tried_before(r: &[u32], i: usize, j: usize) -> bool
     i < j
 }
 
-// Every rule is tried before the default is taken.
-fn precedes(r: &[u32], i: usize, best: Hit) -> bool
+// The best so far is a rule's number, or the count of the rules where that is the default: an enum that is carried through the scan would
+// be copied, with what fills it, at each rule. Every rule is tried before the default is taken.
+fn precedes(r: &[u32], i: usize, best: usize) -> bool
     requires { ⌜ i < R (now r) ⌝ }
-    requires { ⌜ ((j : ℕ) → best ≡ Hit.Rule j → j < R (now r)) ⌝ }
-    ensures { λ b. ⌜ b ≡ precedes (triedBefore (now (r .entry))) i best ⌝ }
+    ensures { λ b. ⌜ b ≡ precedes (triedBefore (now (r .entry))) i (hitFrom (R (now (r .entry))) best) ⌝ }
 {
-    match best {
-        Hit::Rule(j) => tried_before(r, i, j),
-        Hit::Default => true,
-    }
+    blocks::rule_count(r) <= best || tried_before(r, i, best)
 }
 
 // Rule i takes the place of the best below it. The tests stand in the order of their cost, so that in block order nothing is matched after
 // the first hit.
-fn better(p: &[u32], r: &[u32], packet: &[u32], t: usize, i: usize, best: Hit) -> Hit
+fn better(p: &[u32], r: &[u32], packet: &[u32], t: usize, i: usize, best: usize) -> usize
     requires { ⌜ Fitting (now p) (now r) (now packet) ⌝ }
     requires { ⌜ i < R (now r) ⌝ }
-    requires { ⌜ best ≡ hitTo (now p) (now r) (now packet) t i ⌝ }
-    ensures { λ h. ⌜ h ≡ hitTo (now (p .entry)) (now (r .entry)) (now (packet .entry)) t (i + 1) ⌝ }
+    requires { ⌜ hitFrom (R (now r)) best ≡ hitTo (now p) (now r) (now packet) t i ⌝ }
+    ensures { λ n. ⌜ hitFrom (R (now (r .entry))) n ≡ hitTo (now (p .entry)) (now (r .entry)) (now (packet .entry)) t (i + 1) ⌝ }
 {
     if table_of(r, i) == t && precedes(r, i, best) && matches(p, r, packet, i) {
-        Hit::Rule(i)
+        i
     } else {
         best
     }
@@ -87,11 +84,15 @@ pub fn hit(p: &[u32], r: &[u32], packet: &[u32], t: usize) -> Hit
     ensures { λ h. ⌜ h ≡ hit (now (p .entry)) (now (r .entry)) (now (packet .entry)) t ⌝ }
 {
     let count = blocks::rule_count(r);
-    let mut best = Hit::Default;
+    let mut best = count;
     let mut i = 0;
     while i < count {
         best = better(p, r, packet, t, i, best);
         i += 1;
     }
-    best
+    if best < count {
+        Hit::Rule(best)
+    } else {
+        Hit::Default
+    }
 }
