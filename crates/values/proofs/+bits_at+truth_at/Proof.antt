@@ -1,10 +1,10 @@
 -- The cycle of calls {bits_at, truth_at}: the measure is the node's number, which falls at each call. Assumes nothing.
 use Prim.Native.Nat.{ℕ, _<_}
-use mathlib.Core.Path.{_≡_, refl}
+use mathlib.Core.Path.{_≡_, refl, ap, _∙_}
 use borrow.Author.Needs.{needs}
 use borrow.Fn.Kinds.{In}
 use borrow.Fn.PlainCycle.{Measures, is, falls, and}
-use Rattle.model.specs.Trees.{bitsOf}
+use Rattle.model.specs.Trees.{bitsOf, ofWidth}
 use Rattle.model.specs.Good.{GoodValue}
 use Rattle.model.specs.declared.Kind.{Kind}
 use Rattle.values.proofs.Tags.{no-value, no-test}
@@ -145,7 +145,7 @@ unfolding GoodValue bitsOf
     (λ c κs. search needs)  -- of-width-requires-3
     (λ c. let h = value-here t (c .before .before .before) (c .before .enum-told .given .1) in rw (h .is) (c .of-width .ensures))  -- returns
     (λ c. let h = value-here t (c .before .before .before) (c .before .enum-told2 .given .1) in rw (h .is) (c .field-bits .ensures))  -- returns-2
-    (λ c. let h = value-here t (c .before .before .before .before .before) (c .before .before .before .enum-told3 .given .1) in rw (h .is, ← c .before .word-in .ensures) (c .of-width2 .ensures))  -- returns-3
+    (λ c. let h = value-here t (c .before .before .before .before .before) (c .before .before .before .enum-told3 .given .1) in rw (h .is) (c .of-width2 .ensures ∙ ap (ofWidth _) (c .before .word-in .ensures)))  -- returns-3
     (λ c. let h = value-here t (c .before .before .before .before .before .before) (c .before .before .before .before .op .given .1) in rw (h .is, ← c .before .before .bits-at .ensures, ← c .before .bits-at2 .ensures) (c .binary-bits .ensures))  -- returns-4
     (λ c. let h = value-here t (c .before .before .before .before) (c .before .before .enum-told4 .given .1) in rw (h .is, ← c .before .bits-at3 .ensures) (c .complement-bits .ensures))  -- returns-5
     (λ c. let h = value-here t (c .before .before .before .before) (c .before .before .enum-told5 .given .1) in rw (h .is, ← c .before .bits-at4 .ensures) (c .slice-bits .ensures))  -- returns-6
