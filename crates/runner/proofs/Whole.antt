@@ -1,5 +1,6 @@
 -- From the packet that is lent to the run of the pipeline. Assumes nothing.
-use Prim.Native.Nat.{ℕ}
+use Prim.Native.Nat.{ℕ, _≤_}
+use native.Mathlib.Omega.{arith}
 use mathlib.Core.Path.{_≡_, sym, ap, _∙_}
 use mathlib.Core.Bool.{false}
 use mathlib.Core.List.{List, [], _∷_}
@@ -18,25 +19,28 @@ use Rattle.runner.specs.declared.End.{End}
 use Rattle.runner.specs.States.{held, stateIn, EndsAs, Runnable}
 
 -- the packet stands at the start of the 32 words
-pub started : (p packet ws before : List ℕ) → ws ≡ over packet before → length packet ≡ F p → (choices : List ℕ)
+pub started : (packet ws before : List ℕ) → ws ≡ over packet before → (p choices : List ℕ) → length packet ≡ F p
     → stateIn p choices (held ws 0) ≡ start p packet choices
-started p packet ws before e d choices =
+started packet ws before e p choices d =
     let words : take (F p) ws ≡ packet = ap (λ n. take n ws) (sym d) ∙ ap (take (length packet)) e ∙ take-append-seam packet (drop (length packet) before) in
     ap (λ xs. state xs choices 0) words
 
 module _ (p r packet : List ℕ) (accepted : Accepted p r) (within : Within (packetWidths p) packet) where
-  pub packet-long : length packet ≡ F p
+  packet-long : length packet ≡ F p
   packet-long = within-length (widths p) packet within ∙ accepted-good p r accepted .widthsLength
 
   -- the packet that a run starts with is within the fields' widths
-  pub start-within : (choices : List ℕ) → Within (widths p) (start p packet choices .packet)
+  start-within : (choices : List ℕ) → Within (widths p) (start p packet choices .packet)
   start-within choices = within
 
-  module _ (s : Held) (b : (choices : List ℕ) → stateIn p choices s ≡ start p packet choices) (x n : ℕ) (e : x ≡ root p) (d : n ≡ x) where
+  pub packet-few : length packet ≤ 32
+  packet-few = omega (arith, packet-long, accepted-good p r accepted .counts .mostFields)
+
+  module _ (s : Held) (b : (q choices : List ℕ) → length packet ≡ F q → stateIn q choices s ≡ start q packet choices) (x n : ℕ) (e : x ≡ root p) (d : n ≡ x) where
     pub root-runs : Runnable p r (record { inside = false; given = 0 ∷ 0 ∷ [] }) s n
     root-runs = record {
       accepted = accepted;
-      within = rw (ap (λ (z : State). z .packet) (b [])) (start-within []);
+      within = rw (ap (λ (z : State). z .packet) (b p [] packet-long)) (start-within []);
       below = rw (d, e) (accepted-good p r accepted .rootBelow);
       good = rw (d, e) (accepted-good p r accepted .programGood);
     }
@@ -44,4 +48,4 @@ module _ (p r packet : List ℕ) (accepted : Accepted p r) (within : Within (pac
     pub runs-whole : (choices : List ℕ) (y : End) → EndsAs p choices y (run (widths p) (runTable p r) (asStatement (tree p (0 ∷ 0 ∷ []) n)) (stateIn p choices s))
         → EndsAs p choices y (pipelineRun p r packet choices)
     unfolding pipelineRun
-    runs-whole choices y h = rw (← b choices, ← e, ← d) h
+    runs-whole choices y h = rw (← b p choices packet-long, ← e, ← d) h

@@ -166,6 +166,7 @@ pub struct Action {
     pub scope: Scope,
 }
 
+// The action that is called by the three words at a place.
 fn action_at(p: &[u32], ws: &[u32], at: usize) -> Action
     requires { ⌜ Whole (now p) ⌝ }
     requires { ⌜ at + 3 ≤ length (now ws) ⌝ }
@@ -183,6 +184,7 @@ fn action_at(p: &[u32], ws: &[u32], at: usize) -> Action
     }
 }
 
+// The action of the rule of table t that hits, or of its default. The table is looked up once, before anything of it runs.
 fn action_of(p: &[u32], r: &[u32], s: State, t: usize) -> Action
     requires { ⌜ Accepted (now p) (now r) ⌝ }
     requires { ⌜ Stands (now p) s ⌝ }
@@ -234,11 +236,9 @@ fn run_at(p: &[u32], r: &[u32], choices: &[u32], scope: Scope, s: State, n: usiz
 }
 
 // The state that a run starts from.
-fn start(p: &[u32], packet: &[u32]) -> State
-    requires { ⌜ Whole (now p) ⌝ }
-    requires { ⌜ length (now packet) ≡ F (now p) ⌝ }
-    requires { ⌜ F (now p) ≤ 32 ⌝ }
-    ensures { λ s. ⌜ ((choices : List ℕ) → stateIn (now (p .entry)) choices s ≡ start (now (p .entry)) (now (packet .entry)) choices) ⌝ }
+fn start(packet: &[u32]) -> State
+    requires { ⌜ length (now packet) ≤ 32 ⌝ }
+    ensures { λ s. ⌜ ((p choices : List ℕ) → length (now (packet .entry)) ≡ F p → stateIn p choices s ≡ start p (now (packet .entry)) choices) ⌝ }
 {
     let mut words = [0; 32];
     areas::put(packet, &mut words);
@@ -259,7 +259,7 @@ fn run_whole(p: &[u32], r: &[u32], packet: &[u32], choices: &[u32]) -> End
         given: [0; 2],
     };
     let root = blocks::root(p) as usize;
-    run_at(p, r, choices, program, start(p, packet), root)
+    run_at(p, r, choices, program, start(packet), root)
 }
 
 // 11, for fields of 1 to 32 bits.
@@ -300,6 +300,7 @@ pub fn lookup_part(pipeline: &[u32], rules: &[u32], packet: &[u32], table: u32) 
     }
 }
 
+// The table's number is looked at last.
 fn lookup_started(p: &[u32], r: &[u32], packet: &[u32], t: usize) -> Part
     requires { ⌜ Accepted (now p) (now r) ⌝ }
     requires { ⌜ Within (packetWidths (now p)) (now packet) ⌝ }
@@ -378,6 +379,7 @@ fn finish(p: &[u32], e: End, end: &mut [u32]) -> Ran
     }
 }
 
+// 12, and then the run.
 fn run_started(p: &[u32], r: &[u32], packet: &[u32], choices: &[u32], end: &mut [u32]) -> Ran
     requires { ⌜ Accepted (now p) (now r) ⌝ }
     requires { ⌜ Within (packetWidths (now p)) (now packet) ⌝ }

@@ -1,6 +1,6 @@
 -- `runner::run_whole` meets its contract. Assumes nothing.
-use Rattle.runner.proofs.Actions.{whole, few-fields}
-use Rattle.runner.proofs.Whole.{packet-long, root-runs, runs-whole}
+use Rattle.runner.proofs.Actions.{whole}
+use Rattle.runner.proofs.Whole.{packet-few, root-runs, runs-whole}
 use borrow.Author.Needs.{needs}
 use Rattle.runner.proofs.run_whole.Statement.{statement}
 use Rattle.runner.proofs.run_whole.Tie as tie
@@ -9,6 +9,6 @@ pub run-whole-spec : {M : Type 1} → statement M
 run-whole-spec = tie.close (tie.spec
     (λ c κs. search whole)  -- root-requires
     (λ c. search needs)  -- cast-root
-    (λ c κs. search (whole, packet-long, few-fields))  -- start-requires
+    (λ c κs. search packet-few)  -- start-requires
     (λ c κs. search root-runs)  -- run-at-requires
     (λ c. search runs-whole))  -- returns
