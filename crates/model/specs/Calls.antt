@@ -12,7 +12,7 @@ use Rattle.model.specs.Blocks.{F, T, words}
 use Rattle.model.specs.Files.{Held, whole, fault, held, pipelineOf, rulesOf}
 use Rattle.model.specs.Trees.{bitsIn}
 use Rattle.model.specs.Tables.{hit, partOf, partWords}
-use Rattle.model.specs.Runs.{State, Outcome, packetWidths, start, pipelineRun}
+use Rattle.model.specs.Runs.{State, Outcome, packetWidths, startPacket, pipelineRun}
 use Rattle.model.specs.Emit.{Emitted, passiveForm, formLimit}
 use Rattle.model.specs.Condition.{nodeCount, conditionOf, evaluated, bitsWords, lastTruth}
 use Rattle.model.specs.Walk.{packetOf, choicesOf}
@@ -89,7 +89,7 @@ startRows p r packet = checkRows p r ++ packetRows p packet  -- 2 to 11
 
 unfoldable pub lookup : List ℕ → List ℕ → List ℕ → ℕ → Part
 lookup p r packet t =
-    let there = partOf p r t (hit p r (start p packet [] .packet) t) in
+    let there = partOf p r t (hit p r (startPacket p packet) t) in
     let found = if ltb t (T p) then there else Part.Empty in
     unlessRefused (judge (startRows p r packet)) found
 
@@ -132,9 +132,13 @@ runRows p r packet endRoom = startRows p r packet ++ (room (λ _. F p) endRoom �
 unfoldable pub run : List ℕ → List ℕ → List ℕ → List ℕ → ℕ → Answer Ended
 run p r packet choices endRoom = after (judge (runRows p r packet endRoom)) (λ _. ended (pipelineRun p r packet choices))
 
-pub record Runs (p r packet choices end : List ℕ) (answer : Ran) (end′ : List ℕ) : Type 0 where
-  pub answers : said.ran answer ≡ told endValues (run p r packet choices (length end))
-  pub endArea : end′ ≡ written (run p r packet choices (length end)) endPacket end
+-- an ending, or a refusal, is answered, and the end area is left so
+pub record Tells (ending : Answer Ended) (end : List ℕ) (answer : Ran) (end′ : List ℕ) : Type 0 where
+  pub answers : said.ran answer ≡ told endValues ending
+  pub endArea : end′ ≡ written ending endPacket end
+
+abbrev pub Runs : List ℕ → List ℕ → List ℕ → List ℕ → List ℕ → Ran → List ℕ → Type 0
+Runs p r packet choices end = Tells (run p r packet choices (length end)) end
 
 -- CONFIRM: as Run, without 12. Yes exactly when the run fails and uses its whole choice list
 abbrev pub failsWhole : List ℕ → Ended → Bool

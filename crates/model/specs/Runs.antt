@@ -68,12 +68,15 @@ noApply t s = passed s
 abbrev pub runTable : List ℕ → List ℕ → ℕ → State → Outcome
 runTable p r t s = run (widths p) noApply (called p (callOf p r t (hit p r (s .packet) t))) s
 
--- the widths of the packet's values, and the state that a run starts from
+-- the widths of the packet's values; the packet of F values and the state that a run starts from
 abbrev pub packetWidths : List ℕ → List ℕ
 packetWidths p = widths p
 
+abbrev pub startPacket : List ℕ → List ℕ → List ℕ
+startPacket p packet = packet
+
 abbrev pub start : List ℕ → List ℕ → List ℕ → State
-start p packet choices = state packet choices 0
+start p packet choices = state (startPacket p packet) choices 0
 
 -- the run of a pipeline with its rules
 unfoldable pub pipelineRun : List ℕ → List ℕ → List ℕ → List ℕ → Outcome

@@ -13,11 +13,11 @@ use Rattle.model.specs.Lists.{if_then_else_, part}
 use Rattle.model.specs.Blocks.{F, T, callPlace, defaultPlace}
 use Rattle.model.specs.Tables.{hit, partOf}
 use Rattle.model.specs.Good.{Within}
-use Rattle.model.specs.Runs.{packetWidths, start, pipelineRun}
+use Rattle.model.specs.Runs.{packetWidths, startPacket, pipelineRun}
 use Rattle.model.specs.Answers.{done, after, told, yesOrNo, checked, confirmed}
 use Rattle.model.specs.Refusals.{room, judge}
 use Rattle.model.specs.Calls as calls
-use Rattle.model.specs.Calls.{over, startRows, ended, failsWhole, lookup, wordsInto, LooksUp, Runs, confirm, Confirms}
+use Rattle.model.specs.Calls.{over, startRows, ended, failsWhole, lookup, wordsInto, LooksUp, Tells, Runs, confirm, Confirms}
 use Rattle.model.specs.Demands.{Accepted}
 use Rattle.model.specs.declared.Checked.{Checked}
 use Rattle.model.specs.declared.Confirmed.{Confirmed}
@@ -36,7 +36,7 @@ use Rattle.runner.specs.declared.State.{State as Held}
 use Rattle.runner.specs.declared.Ending.{Ending}
 use Rattle.runner.specs.declared.End.{End}
 use Rattle.runner.specs.States.{packetIn, stateIn, outcomeBy, Stands, EndsAs}
-use Rattle.runner.specs.Answered.{Inside, Finished}
+use Rattle.runner.specs.Parts.{Inside}
 use Rattle.runner.proofs.Actions.{few-fields, rule-room, default-room}
 
 -- ---- the end area
@@ -54,7 +54,7 @@ module _ (p : List ℕ) (s : Held) (count : ℕ) (ws : List ℕ) (e : count ≡ 
 
 module _ (p choices end : List ℕ) (e : End) where
   abbrev Finishes : Ran → List ℕ → Type 0
-  Finishes a end′ = Finished (ended (outcomeBy (e .how) (stateIn p choices (e .state)))) end a end′
+  Finishes a end′ = Tells (ended (outcomeBy (e .how) (stateIn p choices (e .state)))) end a end′
 
   module _ (end′ : List ℕ) (h : end′ ≡ over (packetIn p (e .state)) end) where
     pub passed-told : e .how ≡ Ending.Passed → Finishes (Ran.Passed (e .state .used)) end′
@@ -92,7 +92,7 @@ module _ (p r packet choices end : List ℕ) where
     stands-end x k = record { ready = ready p r (packetIn p (x .state)) accepted (k .within); few = few-fields p r accepted }
 
     pub run-finishes : count ≤ length end → (x : End) → EndsAs p choices x (pipelineRun p r packet choices) → (a : Ran) (end′ : List ℕ)
-        → ((choices : List ℕ) → Finished (ended (outcomeBy (x .how) (stateIn p choices (x .state)))) end a end′) → Runs p r packet choices end a end′
+        → ((choices : List ℕ) → Tells (ended (outcomeBy (x .how) (stateIn p choices (x .state)))) end a end′) → Runs p r packet choices end a end′
     run-finishes h x k a end′ f =
         let is = run-gives p r accepted packet choices within (length end) (room-there h) ∙ ap ended (sym (k .outcome)) in
         let done = f choices in
@@ -120,26 +120,26 @@ module _ (p r packet choices end : List ℕ) where
 -- ---- Confirm
 
 module _ (e : End) (count : ℕ) (p choices : List ℕ) (l : length choices ≡ count) where
-  abbrev Tells : Confirmed → Type 0
-  Tells a = confirmed a ≡ told yesOrNo (after (ended (outcomeBy (e .how) (stateIn p choices (e .state)))) (λ x. done (failsWhole choices x)))
+  abbrev Answers : Confirmed → Type 0
+  Answers a = confirmed a ≡ told yesOrNo (after (ended (outcomeBy (e .how) (stateIn p choices (e .state)))) (λ x. done (failsWhole choices x)))
 
-  pub passed-no : e .how ≡ Ending.Passed → Tells Confirmed.No
+  pub passed-no : e .how ≡ Ending.Passed → Answers Confirmed.No
   passed-no k = rw k
 
-  pub blocked-no : (n : ℕ) → e .how ≡ Ending.Blocked n → Tells Confirmed.No
+  pub blocked-no : (n : ℕ) → e .how ≡ Ending.Blocked n → Answers Confirmed.No
   blocked-no n k = rw k
 
   module _ (n : ℕ) (k : e .how ≡ Ending.Failed n) where
-    pub failed-yes : e .state .used ≡ count → Tells Confirmed.Yes
+    pub failed-yes : e .state .used ≡ count → Answers Confirmed.Yes
     failed-yes d = rw (k, eq-eqb (e .state .used) (length choices) (d ∙ sym l))
 
-    pub failed-no : (e .state .used ≡ count → ⊥) → Tells Confirmed.No
+    pub failed-no : (e .state .used ≡ count → ⊥) → Answers Confirmed.No
     failed-no d = rw (k, ne-eqb (e .state .used) (length choices) (λ i. d (i ∙ l)))
 
-  pub short-refused : e .how ≡ Ending.Short → Tells (Confirmed.Refused (Refusal.Short (e .state .used)))
+  pub short-refused : e .how ≡ Ending.Short → Answers (Confirmed.Refused (Refusal.Short (e .state .used)))
   short-refused k = rw k
 
-  pub wrong-refused : e .how ≡ Ending.Wrong → Tells (Confirmed.Refused (Refusal.Entry (e .state .used)))
+  pub wrong-refused : e .how ≡ Ending.Wrong → Answers (Confirmed.Refused (Refusal.Entry (e .state .used)))
   wrong-refused k = rw k
 
 module _ (p r packet choices : List ℕ) (accepted : Accepted p r) (within : Within (packetWidths p) packet) where
@@ -156,7 +156,7 @@ module _ (p r packet : List ℕ) (accepted : Accepted p r) (t : ℕ) where
   lends w = fitting p r packet accepted w
 
   abbrev Found : Part → Type 0
-  Found x = x ≡ (if ltb t (T p) then partOf p r t (hit p r (start p packet [] .packet) t) else Part.Empty)
+  Found x = x ≡ (if ltb t (T p) then partOf p r t (hit p r (startPacket p packet) t) else Part.Empty)
 
   module _ (count : ℕ) (e : count ≡ T p) where
     pub no-table : count ≤ t → Found Part.Empty
@@ -165,12 +165,12 @@ module _ (p r packet : List ℕ) (accepted : Accepted p r) (t : ℕ) where
     pub table-below : t < count → t < T p
     table-below l = rw (← e) l
 
-    module _ (l : t < count) (h : Hit) (d : h ≡ hit p r (start p packet [] .packet) t) where
+    module _ (l : t < count) (h : Hit) (d : h ≡ hit p r (startPacket p packet) t) where
       pub rule-found : (i : ℕ) → h ≡ Hit.Rule i → (at : ℕ) → at ≡ callPlace r i → Found (Part.Rules at)
       rule-found i k at g = rw (lt-ltb t (T p) (rw (← e) l), ← d, k, g)
 
       pub rule-inside : (i : ℕ) → h ≡ Hit.Rule i → (at : ℕ) → at ≡ callPlace r i → Inside p r (Part.Rules at)
-      rule-inside i k at g = rule-room p r accepted (start p packet [] .packet) h t i d k g
+      rule-inside i k at g = rule-room p r accepted (startPacket p packet) h t i d k g
 
       pub default-inside : (at : ℕ) → at ≡ defaultPlace p t → Inside p r (Part.Pipeline at)
       default-inside at g = default-room p r accepted t (table-below l) g
@@ -179,7 +179,7 @@ module _ (p r packet : List ℕ) (accepted : Accepted p r) (t : ℕ) where
       default-found k at g = rw (lt-ltb t (T p) (rw (← e) l), ← d, k, g)
 
 pub lookup-found : (p r packet : List ℕ) (a : Checked) → checked a ≡ told (λ _. []) (judge (startRows p r packet)) → a ≡ Checked.Accepted
-    → (t table : ℕ) → t ≡ table → (x : Part) → x ≡ (if ltb t (T p) then partOf p r t (hit p r (start p packet [] .packet) t) else Part.Empty) → x ≡ lookup p r packet table
+    → (t table : ℕ) → t ≡ table → (x : Part) → x ≡ (if ltb t (T p) then partOf p r t (hit p r (startPacket p packet) t) else Part.Empty) → x ≡ lookup p r packet table
 unfolding lookup
 lookup-found p r packet a e d t table g x h = rw (told-done (judge (startRows p r packet)) (rw d at e), ← g) h
 

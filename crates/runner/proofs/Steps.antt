@@ -35,7 +35,7 @@ use Rattle.runner.specs.declared.End.{End}
 use Rattle.runner.specs.declared.Side.{Side}
 use Rattle.runner.specs.declared.Action.{Action}
 use Rattle.runner.specs.declared.Scope.{Scope}
-use Rattle.runner.specs.States.{packetIn, held, stateIn, outcomeBy, endOf, Stands, EndsAs, sideOf, sideAt, Calls, tablesIn, statementOf, runOf, Runnable}
+use Rattle.runner.specs.States.{packetIn, held, stateIn, outcomeBy, endOf, Stands, EndsAs, sideOf, sideAt, Calls, onApply, tablesIn, statementOf, runOf, Runnable}
 use Rattle.runner.proofs.Ending as ending
 use Rattle.runner.proofs.Leaves.{next-entry}
 use Rattle.runner.proofs.Actions.{few-fields, hit-fits}
@@ -106,13 +106,18 @@ module _ {p r : List ℕ} {scope : Scope} {s : Held} {n t : ℕ} {node : Node} {
   unfolding Good
   havoc-asks e = rw (← accepted-good p r (h .can .accepted) .widthsLength) (good-by _ e)
 
+  -- assume and assert are tests: what both ask
+  module _ (k : Kind) (first : BeforeAll n k a b (node .c) → a < n) (good-test : Good (widths p) tables (asStatement (treeIs k)) → GoodTest (widths p) (asTest (tree p (scope .given) a))) where
+    tested-asks : kind ≡ k → (a < N p) × GoodTest (widths p) (asTest (tree p (scope .given) a))
+    tested-asks e = (omega (arith, first (children k e), h .can .below), good-test (good-by k e))
+
   pub assume-asks : kind ≡ Kind.Assume → (a < N p) × GoodTest (widths p) (asTest (tree p (scope .given) a))
   unfolding Good
-  assume-asks e = (omega (arith, children _ e .0, h .can .below), good-by _ e)
+  assume-asks = tested-asks Kind.Assume (λ c. c .0) (λ g. g)
 
   pub assert-asks : kind ≡ Kind.Assert → (a < N p) × GoodTest (widths p) (asTest (tree p (scope .given) a))
   unfolding Good
-  assert-asks e = (omega (arith, children _ e .0, h .can .below), good-by _ e)
+  assert-asks = tested-asks Kind.Assert (λ c. c .0) (λ g. g)
 
   pub left-asks : kind ≡ Kind.Sequence → Ask p r scope s t a
   unfolding Good
@@ -162,21 +167,28 @@ module _ {p r : List ℕ} {scope : Scope} {s : Held} {n t : ℕ} {node : Node} {
     havoc-gives e x g = rw (is _ e) g
 
     module _ (x : End) where
-      told-by : (test : Bool) (how : Ending) → outcomeBy (if test then Ending.Passed else how) (stateIn p choices s) ≡ (if test then outcomeBy Ending.Passed (stateIn p choices s) else outcomeBy how (stateIn p choices s))
-      told-by true how = refl
-      told-by false how = refl
+      abbrev holds : Bool
+      holds = truthOf (bitsIn (widths p) (packetIn p s)) (asTest (tree p (scope .given) a))
 
       abbrev Tests : Ending → Type 0
-      Tests how = (choices : List ℕ) → EndsAs p choices x
-          (outcomeBy (if truthOf (bitsIn (widths p) (packetIn p s)) (asTest (tree p (scope .given) a)) then Ending.Passed else how) (stateIn p choices s))
+      Tests how = (choices : List ℕ) → EndsAs p choices x (outcomeBy (if holds then Ending.Passed else how) (stateIn p choices s))
+
+      tested-gives : (k : Kind) (how : Ending) → run (widths p) (onApply (scope .inside) p r) (asStatement (treeIs k)) (stateIn p choices s)
+          ≡ (if holds then outcomeBy Ending.Passed (stateIn p choices s) else outcomeBy how (stateIn p choices s)) → kind ≡ k → Tests how → Gives x
+      tested-gives k how d e g = rw (is k e, d) (rw (told-by holds) at (g choices))
+        where
+          told-by : (test : Bool) → outcomeBy (if test then Ending.Passed else how) (stateIn p choices s)
+              ≡ (if test then outcomeBy Ending.Passed (stateIn p choices s) else outcomeBy how (stateIn p choices s))
+          told-by true = refl
+          told-by false = refl
 
       pub assume-gives : kind ≡ Kind.Assume → Tests (Ending.Blocked n) → Gives x
       unfolding run
-      assume-gives e g = rw (is _ e, ← told-by (truthOf (bitsIn (widths p) (packetIn p s)) (asTest (tree p (scope .given) a))) (Ending.Blocked n)) (g choices)
+      assume-gives = tested-gives Kind.Assume (Ending.Blocked n) refl
 
       pub assert-gives : kind ≡ Kind.Assert → Tests (Ending.Failed n) → Gives x
       unfolding run
-      assert-gives e g = rw (is _ e, ← told-by (truthOf (bitsIn (widths p) (packetIn p s)) (asTest (tree p (scope .given) a))) (Ending.Failed n)) (g choices)
+      assert-gives = tested-gives Kind.Assert (Ending.Failed n) refl
 
     -- a run that has not passed is not gone on with
     stays : (how : Ending) (z : State) (go : State → Outcome) → OneOf (1 ∷ 2 ∷ 3 ∷ 4 ∷ []) (tagOf ending.the-type how) → andThen (outcomeBy how z) go ≡ outcomeBy how z

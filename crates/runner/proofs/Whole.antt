@@ -9,7 +9,7 @@ use lib.Seq.{take-append-seam}
 use Rattle.model.specs.Blocks.{F, root, widths}
 use Rattle.model.specs.Trees.{asStatement, tree}
 use Rattle.model.specs.Good.{Within}
-use Rattle.model.specs.Runs.{State, state, run, runTable, packetWidths, start, pipelineRun}
+use Rattle.model.specs.Runs.{State, state, run, runTable, packetWidths, startPacket, start, pipelineRun}
 use Rattle.model.specs.Calls.{over}
 use Rattle.model.specs.Demands.{Accepted}
 use Rattle.model.proofs.Within.{within-length}
@@ -30,8 +30,8 @@ module _ (p r packet : List ℕ) (accepted : Accepted p r) (within : Within (pac
   packet-long = within-length (widths p) packet within ∙ accepted-good p r accepted .widthsLength
 
   -- the packet that a run starts with is within the fields' widths
-  start-within : (choices : List ℕ) → Within (widths p) (start p packet choices .packet)
-  start-within choices = within
+  start-within : Within (widths p) (startPacket p packet)
+  start-within = within
 
   pub packet-few : length packet ≤ 32
   packet-few = omega (arith, packet-long, accepted-good p r accepted .counts .mostFields)
@@ -40,7 +40,7 @@ module _ (p r packet : List ℕ) (accepted : Accepted p r) (within : Within (pac
     pub root-runs : Runnable p r (record { inside = false; given = 0 ∷ 0 ∷ [] }) s n
     root-runs = record {
       accepted = accepted;
-      within = rw (ap (λ (z : State). z .packet) (b p [] packet-long)) (start-within []);
+      within = rw (ap (λ (z : State). z .packet) (b p [] packet-long)) start-within;
       below = rw (d, e) (accepted-good p r accepted .rootBelow);
       good = rw (d, e) (accepted-good p r accepted .programGood);
     }

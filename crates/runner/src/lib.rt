@@ -17,14 +17,14 @@ ghost use Rattle.model.specs.Blocks.{F, N, A as actions, T, widths, callAt};
 ghost use Rattle.model.specs.Trees.{Stmt, asValue, asTest, tree, truthOf, bitsIn};
 ghost use Rattle.model.specs.Tables.{hit, partOf, callOf};
 ghost use Rattle.model.specs.Good.{Within, GoodTest, Good};
-ghost use Rattle.model.specs.Runs.{run, packetWidths, start, pipelineRun, noApply};
+ghost use Rattle.model.specs.Runs.{run, packetWidths, startPacket, start, pipelineRun, noApply};
 ghost use Rattle.model.specs.Answers.{done, after, told, yesOrNo, checked, confirmed};
 ghost use Rattle.model.specs.Refusals.{judge, packetRows};
-ghost use Rattle.model.specs.Calls.{over, startRows, lookup, wordsInto, LooksUp, ended, Runs, failsWhole, Confirms};
+ghost use Rattle.model.specs.Calls.{over, startRows, lookup, wordsInto, LooksUp, ended, Tells, Runs, failsWhole, Confirms};
 ghost use Rattle.model.specs.Demands.{Accepted};
 ghost use Rattle.blocks.specs.Whole.{Whole};
 ghost use Rattle.runner.specs.States.{packetIn, stateIn, outcomeBy, Stands, EndsAs, sideAt, held, endOf, Calls, Runnable, runOf};
-ghost use Rattle.runner.specs.Answered.{Inside, Finished};
+ghost use Rattle.runner.specs.Parts.{Inside};
 
 // Where a run stands: the packet in the first F words, and how many entries were used.
 pub struct State {
@@ -304,7 +304,7 @@ pub fn lookup_part(pipeline: &[u32], rules: &[u32], packet: &[u32], table: u32) 
 fn lookup_started(p: &[u32], r: &[u32], packet: &[u32], t: usize) -> Part
     requires { ⌜ Accepted (now p) (now r) ⌝ }
     requires { ⌜ Within (packetWidths (now p)) (now packet) ⌝ }
-    ensures { λ x. ⌜ x ≡ (if ltb t (T (now (p .entry))) then partOf (now (p .entry)) (now (r .entry)) t (hit (now (p .entry)) (now (r .entry)) (start (now (p .entry)) (now (packet .entry)) [] .packet) t) else Part.Empty) ⌝ }
+    ensures { λ x. ⌜ x ≡ (if ltb t (T (now (p .entry))) then partOf (now (p .entry)) (now (r .entry)) t (hit (now (p .entry)) (now (r .entry)) (startPacket (now (p .entry)) (now (packet .entry))) t) else Part.Empty) ⌝ }
     ensures { λ x. ⌜ Inside (now (p .entry)) (now (r .entry)) x ⌝ }
 {
     if blocks::table_count(p) <= t {
@@ -350,7 +350,7 @@ fn leave(p: &[u32], s: State, end: &mut [u32])
 fn finish(p: &[u32], e: End, end: &mut [u32]) -> Ran
     requires { ⌜ Stands (now p) (e .state) ⌝ }
     requires { ⌜ F (now p) ≤ length (now end) ⌝ }
-    ensures { λ a. ⌜ ((choices : List ℕ) → Finished (ended (outcomeBy (e .how) (stateIn (now (p .entry)) choices (e .state)))) (now (end .entry)) a (now (end .exit))) ⌝ }
+    ensures { λ a. ⌜ ((choices : List ℕ) → Tells (ended (outcomeBy (e .how) (stateIn (now (p .entry)) choices (e .state)))) (now (end .entry)) a (now (end .exit))) ⌝ }
 {
     let how = e.how;
     let state = e.state;
