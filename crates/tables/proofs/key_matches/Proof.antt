@@ -12,4 +12,4 @@ key-matches-spec = tie.close (tie.spec
     (λ c κs. (search needs, search there))  -- value-requires
     (λ c κs. search there)  -- word-requires
     (λ c κs. search needs)  -- under-requires
-    (λ c. cc))  -- returns
+    (λ c. rw (c .under .ensures, c .before .word .ensures, c .before .before .value .ensures, c .before .before .before .mask .ensures, c .before .before .before .before .wide .ensures, c .before .before .before .before .before .key .ensures)))  -- returns

@@ -8,5 +8,5 @@ compare-bits-spec = tie.close (tie.spec
     (λ c. search needs)  -- enum-told
     (λ c. search needs)  -- enum-told-2
     (λ c κs. search needs)  -- less-requires
-    (λ c. cc)  -- returns
-    (λ c. cc))  -- returns-2
+    (λ c. rw (c .before .before .enum-told .given .1))  -- returns
+    (λ c. rw (c .before .enum-told2 .given .1) (c .less .ensures)))  -- returns-2

@@ -9,4 +9,4 @@ join-bits-spec = tie.close (tie.spec
     (λ c. search needs)  -- add-of-width
     (λ c κs. search (needs, join-word))  -- join-requires
     (λ c κs. search needs)  -- of-width-requires
-    (λ c. cc))  -- returns
+    (λ c. rw (c .of-width .ensures, c .before .join .ensures)))  -- returns
