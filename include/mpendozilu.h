@@ -1,18 +1,18 @@
 /* Mpendozilu for C99 and C++: packet pipelines of a programmable switch, held to their rules.
  *
- * Blocks, packets and choice lists are lent as 32-bit words: a pointer to the first, and how many there are. A call reads them in place,
- * changes nothing but what it says that it writes, and keeps no pointer. Where the number of words is 0 the pointer is not looked at and may
- * be NULL; any other pointer leads to that many words, aligned as a uint32_t is. A call asks nothing of the words themselves: it refuses
- * what is wrong. An area that a call may write is one whose pointer isn't const; it lies apart from what else is lent. What is lent to be
- * read may overlap.
+ * Blocks, packets, choice lists and passive forms are lent as 32-bit words, a file as bytes: a pointer to the first, and how many there are.
+ * A call reads them in place, changes nothing but what it says that it writes, and keeps no pointer. Where there are none the pointer is not
+ * looked at and may be NULL; any other pointer leads to that many, and where they are words it is aligned as a uint32_t is. A call asks
+ * nothing of what is lent: it refuses what is wrong. An area that a call may write is one whose pointer isn't const; it lies apart from what
+ * else is lent. What is lent to be read may overlap.
  *
  * A call returns 0 on success and otherwise the number of its refusal. The three numbers lie apart from each other and from what else is
  * lent, and none of the pointers to them is NULL. On success they hold what the call names. After a refusal the first is the place. What
  * is not named is written 0, so no call leaves one of them as it was.
  *
  * Calls keep nothing between them, so several threads may call at once, as long as nobody writes what is lent, or reads an area that may
- * be written, until its call returns. The library is compiled for Linux on x86-64. A run calls itself as deep as the pipeline's tree: a thread that
- * calls needs a stack of 1 MiB.
+ * be written, until its call returns. The library is compiled for Linux on x86-64. Run, Confirm and Passify call themselves as deep as the
+ * pipeline's tree: a thread that calls needs a stack of 1 MiB.
  *
  * The numbers, and the place that each is given with:
  *
@@ -48,6 +48,15 @@
 #ifdef __cplusplus
 extern "C" {
 #endif
+
+/* Load: the pipeline block and the rule block of a record file. It judges the records and their order, not what they say, which Check does.
+ * Refusals, the first of this order: 1; 12 where the pipeline area is too short for its block, then where the rule area is. On success the
+ * first number is the length of the pipeline block and the second that of the rule block, in words, and the third is 0. The blocks stand at
+ * the start of their areas; the other words stay, and after a refusal all of them. */
+uint64_t mz_load(const uint8_t *file, size_t file_length,
+                 uint32_t *pipeline, size_t pipeline_length,
+                 uint32_t *rules, size_t rules_length,
+                 uint64_t *first, uint64_t *second, uint64_t *third);
 
 /* Check: whether the pipeline block and the rule block keep the rules of document 01. A rule block of no words has no rules.
  * Refusals: 2 to 10. On success the three numbers are 0. */
@@ -86,6 +95,17 @@ uint64_t mz_confirm(const uint32_t *pipeline, size_t pipeline_length,
                     const uint32_t *rules, size_t rules_length,
                     const uint32_t *packet, size_t packet_length,
                     const uint32_t *choices, size_t choices_length,
+                    uint64_t *first, uint64_t *second, uint64_t *third);
+
+/* Passify: the pipeline in passive form, n nodes over V variables, of which the first F are the packet's fields.
+ * Refusals, the first of this order: 2 to 10 as Check; 12 at 0 where n is above 65,536, whatever room there is; 12 where the node area has
+ * fewer than 4n words, then where the width area has fewer than V. On success the first number is n, the second is V, and the third is 0. The
+ * nodes, of four words each, stand at the start of the node area and the variables' widths at the start of the width area; the other words
+ * stay, and after a refusal all of them. */
+uint64_t mz_passify(const uint32_t *pipeline, size_t pipeline_length,
+                    const uint32_t *rules, size_t rules_length,
+                    uint32_t *nodes, size_t nodes_length,
+                    uint32_t *widths, size_t widths_length,
                     uint64_t *first, uint64_t *second, uint64_t *third);
 
 #ifdef __cplusplus

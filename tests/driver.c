@@ -1,10 +1,11 @@
 /* driver [FILE..]: holds the library to cases in the format of tests/vectors, from the files or from standard input.
  *
  * Each slice is lent so that an unreadable page begins where it ends; what stands before it, back to another such page, is filled. A case
- * passes when the call returns what is expected, writes what it has to at the start of an area, and leaves all other words that were lent,
- * and what stands before them, as they were. A case that differs is printed, with its line; so is a line that is no case, which has failed
- * too. A line that begins with '#' names the cases after it. Cases of calls that the driver doesn't make yet are counted apart and named.
- * The last line is 'N passed, M failed'; the exit status is 0 only when something passed and nothing failed. */
+ * passes when the call returns what is expected, writes what it has to at the start of an area, and leaves all else that was lent, and what
+ * stands before it, as it was. A case that differs is printed, with its line; so is a line that is no case, which has failed too. A line
+ * that begins with '#' names the cases after it. Cases of calls that the driver doesn't make yet are counted apart and named. A call that
+ * reads or writes elsewhere, or works longer than CALL_SECONDS, ends the driver. The last line is 'N passed, M failed'; the exit status is 0
+ * only when something passed and nothing failed. */
 #define _GNU_SOURCE
 #include <errno.h>
 #include <inttypes.h>
@@ -14,11 +15,14 @@
 #include <stdlib.h>
 #include <string.h>
 #include <sys/mman.h>
+#include <sys/time.h>
 #include <unistd.h>
 
 #include "mpendozilu.h"
 
-enum { MOST_FIELDS = 7, MOST_SLICES = 5, MOST_ROOM = 1 << 20, CALL_WORDS = 3, UNWRITTEN = 0x5a5a5a5a, FILL = 0xa5 };
+enum { MOST_FIELDS = 7, MOST_SLICES = 5, MOST_ROOM = 1 << 20, CALL_WORDS = 3, NODE_WORDS = 4, CALL_SECONDS = 3 };
+
+enum { UNWRITTEN = 0x5a5a5a5a, FILL = 0xa5 };
 
 enum verdict { PASSED, FAILED, LATER };
 
@@ -30,21 +34,22 @@ static struct {
     char fault[256];
 } here;
 
-struct words {
-    uint32_t *at;
-    size_t count;
+/* Words, or the bytes of a file: so many, each of so many bytes. */
+struct list {
+    void *at;
+    size_t count, each;
 };
 
-/* A copy of some words that ends where an unreadable page begins, and what fills its pages before it. */
+/* A copy of a list that ends where an unreadable page begins, and what fills its pages before it. */
 struct lent {
-    uint32_t *at;
+    void *at;
     unsigned char *pages, *fill;
     size_t size, filled;
 };
 
-/* The words that a case lends, and what the call has to write over their start: nothing where they are lent to be read. */
+/* What a case lends, and what the call has to write over its start: nothing where it is lent to be read. */
 struct slice {
-    struct words words, written;
+    struct list given, written;
     struct lent copy;
 };
 
@@ -78,7 +83,7 @@ static void print_name(void)
     printf("%s%s\n", here.name == NULL ? "" : " ", here.name == NULL ? "" : here.name);
 }
 
-/* The library read or wrote where nothing was lent to it. A handler may not print, so the line stands ready. */
+/* The library read or wrote where nothing was lent to it, or worked too long. A handler may not print, so the line stands ready. */
 static void caught(int signal)
 {
     (void)signal;
@@ -86,11 +91,16 @@ static void caught(int signal)
     _exit(1);
 }
 
+static size_t bytes_of(const struct list *given)
+{
+    return given->count * given->each;
+}
+
 /* Lends a copy. An empty slice is the unreadable page itself, or NULL. */
-static struct lent lend(const struct words *ws, bool empty_is_null)
+static struct lent lend(const struct list *given, bool empty_is_null)
 {
     size_t page = (size_t)sysconf(_SC_PAGESIZE);
-    size_t bytes = ws->count * sizeof *ws->at;
+    size_t bytes = bytes_of(given);
     size_t readable = (bytes + page - 1) / page * page;
     struct lent l;
     l.size = page + readable + page;
@@ -101,9 +111,9 @@ static struct lent lend(const struct words *ws, bool empty_is_null)
     l.fill = l.pages + page;
     l.filled = readable - bytes;
     memset(l.fill, FILL, l.filled);
-    l.at = (uint32_t *)(void *)(l.fill + l.filled);
-    memcpy(l.at, ws->at, bytes);
-    if (ws->count == 0 && empty_is_null) {
+    l.at = l.fill + l.filled;
+    memcpy(l.at, given->at, bytes);
+    if (bytes == 0 && empty_is_null) {
         l.at = NULL;
     }
     return l;
@@ -112,9 +122,11 @@ static struct lent lend(const struct words *ws, bool empty_is_null)
 /* Takes the copy back, and says whether it is as it has to be and what stands before it as it was. */
 static bool take_back(const struct slice *s)
 {
+    const unsigned char *copy = s->copy.fill + s->copy.filled, *given = s->given.at, *written = s->written.at;
+    size_t new = bytes_of(&s->written);
     bool same = true;
-    for (size_t i = 0; i < s->words.count; i++) {
-        same = same && s->copy.at[i] == (i < s->written.count ? s->written.at[i] : s->words.at[i]);
+    for (size_t i = 0; i < bytes_of(&s->given); i++) {
+        same = same && copy[i] == (i < new ? written[i] : given[i]);
     }
     for (size_t i = 0; i < s->copy.filled; i++) {
         same = same && s->copy.fill[i] == FILL;
@@ -141,25 +153,24 @@ static bool read_number(char **text, uint32_t *number)
     return true;
 }
 
-/* Room for some words and one more. The caller frees it. */
-static uint32_t *room_for(size_t count)
+/* An empty list with room for some and one more. The caller frees it. */
+static void *room_for(size_t count, size_t each, struct list *l)
 {
-    uint32_t *at = calloc(count + 1, sizeof *at);
-    if (at == NULL) {
+    *l = (struct list){calloc(count + 1, each), 0, each};
+    if (l->at == NULL) {
         stop("no memory");
     }
-    return at;
+    return l->at;
 }
 
 /* Reads words that are separated by single spaces; none is a list too. The caller frees them. */
-static bool read_words(char *text, struct words *ws)
+static bool read_words(char *text, struct list *ws)
 {
-    ws->count = 0;
-    ws->at = room_for(strlen(text));
+    uint32_t *at = room_for(strlen(text), sizeof *at, ws);
     if (*text == '\0') {
         return true;
     }
-    while (read_number(&text, &ws->at[ws->count++])) {
+    while (read_number(&text, &at[ws->count++])) {
         if (*text == '\0') {
             return true;
         }
@@ -171,15 +182,30 @@ static bool read_words(char *text, struct words *ws)
 }
 
 /* Reads an area's room, and fills the area so that no two of its words are alike. The caller frees it. */
-static bool read_room(char *text, struct words *ws)
+static bool read_room(char *text, struct list *ws)
 {
-    uint32_t room;
+    uint32_t room, *at;
     if (!read_number(&text, &room) || *text != '\0' || room > MOST_ROOM) {
         return false;
     }
-    ws->at = room_for(room);
-    for (ws->count = 0; ws->count < room; ws->count++) {
-        ws->at[ws->count] = UNWRITTEN + (uint32_t)ws->count;
+    at = room_for(room, sizeof *at, ws);
+    for (; ws->count < room; ws->count++) {
+        at[ws->count] = UNWRITTEN + (uint32_t)ws->count;
+    }
+    return true;
+}
+
+/* Reads a file in hex, with small letters. The caller frees it. */
+static bool read_file(const char *text, struct list *file)
+{
+    static const char digits[] = "0123456789abcdef";
+    size_t length = strlen(text);
+    unsigned char *at = room_for(length / 2, sizeof *at, file);
+    if (length % 2 != 0 || strspn(text, digits) != length) {
+        return false;
+    }
+    for (; file->count < length / 2; file->count++, text += 2) {
+        at[file->count] = (unsigned char)((strchr(digits, text[0]) - digits) * 16 + (strchr(digits, text[1]) - digits));
     }
     return true;
 }
@@ -236,9 +262,18 @@ static enum verdict compare(const struct answer *expected, const struct answer *
     print_here();
     print_answer("expected", expected);
     print_answer(", got", got);
-    printf("%s", areas_same ? "" : ", and words that were lent are not as they have to be");
+    printf("%s", areas_same ? "" : ", and what was lent is not as it has to be");
     print_name();
     return FAILED;
+}
+
+/* Signals when the process has worked so long from now on; 0 for never. */
+static void limit_time(time_t seconds)
+{
+    struct itimerval limit = {{0, 0}, {seconds, 0}};
+    if (setitimer(ITIMER_VIRTUAL, &limit, NULL) != 0) {
+        stop("no timer");
+    }
 }
 
 /* Makes the call, and judges what it gave. */
@@ -247,13 +282,42 @@ static enum verdict hold(struct trial *t, uint64_t (*call)(const struct trial *,
     struct answer got = {UNWRITTEN, UNWRITTEN, UNWRITTEN, UNWRITTEN};
     bool same = true;
     for (size_t i = 0; i < t->count; i++) {
-        t->slices[i].copy = lend(&t->slices[i].words, empty_is_null);
+        t->slices[i].copy = lend(&t->slices[i].given, empty_is_null);
     }
+    limit_time(CALL_SECONDS);
     got.number = call(t, &got);
+    limit_time(0);
     for (size_t i = 0; i < t->count; i++) {
         same = take_back(&t->slices[i]) && same;
     }
     return compare(&t->expected, &got, same);
+}
+
+/* ok A B : words : words, for a call that writes them to two areas, of which the first has so many words for each of A and the second B. */
+static bool answers_two_areas(char *text, struct slice *areas, size_t each, struct answer *expected)
+{
+    uint32_t a, b;
+    char *second;
+    if (!read_word(&text, "ok ") || !read_two(&text, &a, &b) || !read_word(&text, " : ") || (second = strstr(text, " : ")) == NULL) {
+        return false;
+    }
+    *second = '\0';
+    *expected = (struct answer){0, a, b, 0};
+    return read_words(text, &areas[0].written) && areas[0].written.count == each * a && areas[0].given.count >= areas[0].written.count
+        && read_words(second + strlen(" : "), &areas[1].written) && areas[1].written.count == b && areas[1].given.count >= b;
+}
+
+/* Load: ok LENGTH LENGTH : pipeline : rules */
+static bool answers_blocks(char *text, struct trial *t)
+{
+    return answers_two_areas(text, &t->slices[1], 1, &t->expected);
+}
+
+static uint64_t call_load(const struct trial *t, struct answer *got)
+{
+    const struct slice *s = t->slices;
+    return mz_load(s[0].copy.at, s[0].given.count, s[1].copy.at, s[1].given.count, s[2].copy.at, s[2].given.count, &got->first,
+                   &got->second, &got->third);
 }
 
 /* Check: ok */
@@ -266,7 +330,7 @@ static bool answers_ok(char *text, struct trial *t)
 static uint64_t call_check(const struct trial *t, struct answer *got)
 {
     const struct slice *s = t->slices;
-    return mz_check(s[0].copy.at, s[0].words.count, s[1].copy.at, s[1].words.count, &got->first, &got->second, &got->third);
+    return mz_check(s[0].copy.at, s[0].given.count, s[1].copy.at, s[1].given.count, &got->first, &got->second, &got->third);
 }
 
 /* Lookup: empty; part pipeline OFFSET; part rules OFFSET. The three words stand in that block. */
@@ -278,7 +342,7 @@ static bool answers_part(char *text, struct trial *t)
         if (read_word(&text, parts[i])) {
             bool readable = read_number(&text, &offset) && *text == '\0';
             t->expected = (struct answer){0, 2 - i, offset, 0};
-            return readable && (size_t)offset + CALL_WORDS <= t->slices[i].words.count;
+            return readable && (size_t)offset + CALL_WORDS <= t->slices[i].given.count;
         }
     }
     return strcmp(text, "empty") == 0;
@@ -287,7 +351,7 @@ static bool answers_part(char *text, struct trial *t)
 static uint64_t call_lookup(const struct trial *t, struct answer *got)
 {
     const struct slice *s = t->slices;
-    return mz_lookup(s[0].copy.at, s[0].words.count, s[1].copy.at, s[1].words.count, s[2].copy.at, s[2].words.count, t->number,
+    return mz_lookup(s[0].copy.at, s[0].given.count, s[1].copy.at, s[1].given.count, s[2].copy.at, s[2].given.count, t->number,
                      &got->first, &got->second, &got->third);
 }
 
@@ -305,14 +369,14 @@ static bool answers_ending(char *text, struct trial *t)
         return false;
     }
     t->expected = (struct answer){0, how, node, used};
-    return end->written.count <= end->words.count;
+    return end->written.count <= end->given.count;
 }
 
 static uint64_t call_run(const struct trial *t, struct answer *got)
 {
     const struct slice *s = t->slices;
-    return mz_run(s[0].copy.at, s[0].words.count, s[1].copy.at, s[1].words.count, s[2].copy.at, s[2].words.count, s[3].copy.at,
-                  s[3].words.count, s[4].copy.at, s[4].words.count, &got->first, &got->second, &got->third);
+    return mz_run(s[0].copy.at, s[0].given.count, s[1].copy.at, s[1].given.count, s[2].copy.at, s[2].given.count, s[3].copy.at,
+                  s[3].given.count, s[4].copy.at, s[4].given.count, &got->first, &got->second, &got->third);
 }
 
 /* Confirm: yes; no */
@@ -325,24 +389,38 @@ static bool answers_yes_or_no(char *text, struct trial *t)
 static uint64_t call_confirm(const struct trial *t, struct answer *got)
 {
     const struct slice *s = t->slices;
-    return mz_confirm(s[0].copy.at, s[0].words.count, s[1].copy.at, s[1].words.count, s[2].copy.at, s[2].words.count, s[3].copy.at,
-                      s[3].words.count, &got->first, &got->second, &got->third);
+    return mz_confirm(s[0].copy.at, s[0].given.count, s[1].copy.at, s[1].given.count, s[2].copy.at, s[2].given.count, s[3].copy.at,
+                      s[3].given.count, &got->first, &got->second, &got->third);
 }
 
-/* The calls of the format, and for each argument a letter: a slice that is read (r), an area that may be written (w), a number (n). What
- * the call answers with when it doesn't refuse is read by a function of its own. Calls with no function are left for later. */
+/* Passify: ok N V : node words : widths */
+static bool answers_form(char *text, struct trial *t)
+{
+    return answers_two_areas(text, &t->slices[2], NODE_WORDS, &t->expected);
+}
+
+static uint64_t call_passify(const struct trial *t, struct answer *got)
+{
+    const struct slice *s = t->slices;
+    return mz_passify(s[0].copy.at, s[0].given.count, s[1].copy.at, s[1].given.count, s[2].copy.at, s[2].given.count, s[3].copy.at,
+                      s[3].given.count, &got->first, &got->second, &got->third);
+}
+
+/* The calls of the format, and for each argument a letter: a file that is read (f), words that are read (r), an area that may be
+ * written (w), a number (n). What the call answers with when it doesn't refuse is read by a function of its own. Calls with no function are
+ * left for later. */
 static struct call {
     const char *name, *arguments;
     bool (*answers)(char *text, struct trial *t);
     uint64_t (*call)(const struct trial *t, struct answer *got);
     size_t later;
 } calls[] = {
-    {"load", NULL, NULL, NULL, 0},
+    {"load", "fww", answers_blocks, call_load, 0},
     {"check", "rr", answers_ok, call_check, 0},
     {"lookup", "rrrn", answers_part, call_lookup, 0},
     {"run", "rrrrw", answers_ending, call_run, 0},
     {"confirm", "rrrr", answers_yes_or_no, call_confirm, 0},
-    {"passify", NULL, NULL, NULL, 0},
+    {"passify", "rrww", answers_form, call_passify, 0},
     {"condition", NULL, NULL, NULL, 0},
     {"evaluate", NULL, NULL, NULL, 0},
     {"extract", NULL, NULL, NULL, 0},
@@ -354,12 +432,14 @@ enum { CALLS = sizeof calls / sizeof calls[0] };
 static bool read_argument(char letter, char *text, struct trial *t)
 {
     switch (letter) {
+    case 'f':
+        return read_file(text, &t->slices[t->count++].given);
     case 'n':
         return read_number(&text, &t->number) && *text == '\0';
     case 'w':
-        return read_room(text, &t->slices[t->count++].words);
+        return read_room(text, &t->slices[t->count++].given);
     default:
-        return read_words(text, &t->slices[t->count++].words);
+        return read_words(text, &t->slices[t->count++].given);
     }
 }
 
@@ -385,13 +465,13 @@ static enum verdict judge_trial(const struct call *c, char **fields, size_t coun
     bool empty = false;
     enum verdict v = read_trial(c, fields, count, &t) ? hold(&t, c->call, false) : malformed();
     for (size_t i = 0; i < t.count; i++) {
-        empty = empty || t.slices[i].words.count == 0;
+        empty = empty || t.slices[i].given.count == 0;
     }
     if (v == PASSED && empty) {
         v = hold(&t, c->call, true);
     }
     for (size_t i = 0; i < t.count; i++) {
-        free(t.slices[i].words.at);
+        free(t.slices[i].given.at);
         free(t.slices[i].written.at);
     }
     return v;
@@ -475,6 +555,7 @@ int main(int count, char **paths)
     size_t verdicts[] = {0, 0, 0};
     signal(SIGSEGV, caught);
     signal(SIGBUS, caught);
+    signal(SIGVTALRM, caught);
     if (count < 2) {
         judge_file(stdin, "standard input", verdicts);
     }

@@ -2,14 +2,17 @@
 // caller lends take the values of a success or the place of a refusal. No call asks anything of its arguments.
 use model::Checked;
 use model::Confirmed;
+use model::Loaded;
 use model::Part;
+use model::Passified;
 use model::Ran;
 use model::Refusal;
 ghost use mathlib.Core.Path.{_≡_};
 ghost use mathlib.Core.List.{[], _∷_};
 ghost use lib.ListN.{length};
 ghost use Rattle.model.specs.Answers.{done, told, yesOrNo, refusalOf, lookedUp};
-ghost use Rattle.model.specs.Calls.{check, lookup, run, endValues, endPacket, confirm, written};
+ghost use Rattle.model.specs.Blocks.{words};
+ghost use Rattle.model.specs.Calls.{load, check, lookup, run, endValues, endPacket, confirm, passify, written};
 ghost use Rattle.capi.specs.Returns.{Returns};
 
 // A success with its values; a call that has fewer than three gives 0 for the others.
@@ -30,6 +33,29 @@ fn refuse(why: Refusal, first: &mut u64, second: &mut u64, third: &mut u64) -> u
     *second = 0;
     *third = 0;
     model::number(why)
+}
+
+// Load.
+#[no_mangle]
+pub extern "C" fn mz_load(
+    file: &[u8],
+    pipeline: &mut [u32],
+    rules: &mut [u32],
+    first: &mut u64,
+    second: &mut u64,
+    third: &mut u64,
+) -> u64
+    ensures { λ r. ⌜ Returns (told (λ b. length (b .pipeline) ∷ length (b .rules) ∷ []) (load (now (file .entry)) (length (now (pipeline .entry))) (length (now (rules .entry))))) r
+        (now (first .exit)) (now (second .exit)) (now (third .exit)) ⌝ }
+    ensures { λ _. ⌜ now (pipeline .exit) ≡ written (load (now (file .entry)) (length (now (pipeline .entry))) (length (now (rules .entry)))) (λ b. b .pipeline) (now (pipeline .entry)) ⌝ }
+    ensures { λ _. ⌜ now (rules .exit) ≡ written (load (now (file .entry)) (length (now (pipeline .entry))) (length (now (rules .entry)))) (λ b. b .rules) (now (rules .entry)) ⌝ }
+{
+    match records::load(file, pipeline, rules) {
+        Loaded::Blocks { pipeline, rules } => {
+            succeed(pipeline as u64, rules as u64, 0, first, second, third)
+        }
+        Loaded::Refused(why) => refuse(why, first, second, third),
+    }
 }
 
 // Check.
@@ -112,5 +138,29 @@ pub extern "C" fn mz_confirm(
         Confirmed::Yes => succeed(1, 0, 0, first, second, third),
         Confirmed::No => succeed(0, 0, 0, first, second, third),
         Confirmed::Refused(why) => refuse(why, first, second, third),
+    }
+}
+
+// Passify.
+#[no_mangle]
+pub extern "C" fn mz_passify(
+    pipeline: &[u32],
+    rules: &[u32],
+    nodes: &mut [u32],
+    widths: &mut [u32],
+    first: &mut u64,
+    second: &mut u64,
+    third: &mut u64,
+) -> u64
+    ensures { λ r. ⌜ Returns (told (λ w. length (w .nodes) ∷ length (w .widths) ∷ []) (passify (now (pipeline .entry)) (now (rules .entry)) (length (now (nodes .entry))) (length (now (widths .entry))))) r
+        (now (first .exit)) (now (second .exit)) (now (third .exit)) ⌝ }
+    ensures { λ _. ⌜ now (nodes .exit) ≡ written (passify (now (pipeline .entry)) (now (rules .entry)) (length (now (nodes .entry))) (length (now (widths .entry)))) (λ w. words (w .nodes)) (now (nodes .entry)) ⌝ }
+    ensures { λ _. ⌜ now (widths .exit) ≡ written (passify (now (pipeline .entry)) (now (rules .entry)) (length (now (nodes .entry))) (length (now (widths .entry)))) (λ w. w .widths) (now (widths .entry)) ⌝ }
+{
+    match passive::passify(pipeline, rules, nodes, widths) {
+        Passified::Form { nodes, variables } => {
+            succeed(nodes as u64, variables as u64, 0, first, second, third)
+        }
+        Passified::Refused(why) => refuse(why, first, second, third),
     }
 }

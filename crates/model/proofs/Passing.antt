@@ -15,7 +15,7 @@ use Rattle.model.proofs.First.{judge-append}
 use Rattle.model.proofs.Answers.{back, refusal-back}
 
 -- a refusal is no success
-refusal-refuses : (x : Refusal) (values : List ℕ) → refusalOf x ≡ done values → ⊥
+pub refusal-refuses : (x : Refusal) (values : List ℕ) → refusalOf x ≡ done values → ⊥
 refusal-refuses x values e =
     let back : Answer (List ℕ) → Bool = back (λ _. true) (λ _. false) in
     false≢true (sym (refusal-back (λ _. true) (λ _. false) x) ∙ ap back e)

@@ -29,6 +29,7 @@ use Rattle.model.proofs.First.{once-stop, judge-append}
 use Rattle.model.proofs.Refusals.{clear-judge}
 use Rattle.model.proofs.CallsGive.{start-clear, run-gives, confirm-gives}
 use Rattle.model.proofs.Passing.{told-done, Refuses, told-refuses, passed-on, tells-on}
+use Rattle.actions.proofs.Actions.{few-fields, rule-room, default-room}
 use Rattle.values.proofs.Ready.{ready}
 use Rattle.tables.specs.Fitting.{Fitting}
 use Rattle.tables.proofs.Fitting.{fitting}
@@ -37,7 +38,7 @@ use Rattle.runner.specs.declared.Ending.{Ending}
 use Rattle.runner.specs.declared.End.{End}
 use Rattle.runner.specs.States.{packetIn, stateIn, outcomeBy, Stands, EndsAs}
 use Rattle.runner.specs.Parts.{Inside}
-use Rattle.runner.proofs.Actions.{few-fields, rule-room, default-room}
+use Rattle.runner.proofs.Actions.{hit-there}
 
 -- ---- the end area
 
@@ -170,10 +171,10 @@ module _ (p r packet : List ℕ) (accepted : Accepted p r) (t : ℕ) where
       rule-found i k at g = rw (lt-ltb t (T p) (rw (← e) l), ← d, k, g)
 
       pub rule-inside : (i : ℕ) → h ≡ Hit.Rule i → (at : ℕ) → at ≡ callPlace r i → Inside p r (Part.Rules at)
-      rule-inside i k at g = rule-room p r accepted (startPacket p packet) h t i d k g
+      rule-inside i k at g = rule-room p r accepted (hit-there p r (startPacket p packet) t d) k g
 
       pub default-inside : (at : ℕ) → at ≡ defaultPlace p t → Inside p r (Part.Pipeline at)
-      default-inside at g = default-room p r accepted t (table-below l) g
+      default-inside at g = default-room p r accepted (table-below l) g
 
       pub default-found : h ≡ Hit.Default → (at : ℕ) → at ≡ defaultPlace p t → Found (Part.Pipeline at)
       default-found k at g = rw (lt-ltb t (T p) (rw (← e) l), ← d, k, g)

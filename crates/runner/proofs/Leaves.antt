@@ -7,12 +7,12 @@ use mathlib.Core.Bool.{Bool, true, false}
 use mathlib.Core.List.{List, _∷_}
 use borrow.Author.Tests.{ltb-true, lt-ltb, le-ltb, ne-eqb}
 use lib.ListN.{length, getD, set, take, drop, drop-of-length-le}
-use lib.Seq.{length-take-le, drop-cons, take-set-lt}
+use lib.Seq.{drop-cons, take-set-lt}
 use Rattle.bits.specs.Width.{fits}
 use Rattle.model.specs.Lists.{if_then_else_, word}
 use Rattle.model.specs.Blocks.{F, widths, width}
 use Rattle.model.specs.Trees.{Val, Test, Stmt, bitsOf, truthOf, bitsIn}
-use Rattle.model.specs.Good.{Within, Good, GoodValue}
+use Rattle.model.specs.Good.{Good, GoodValue}
 use Rattle.model.specs.Runs.{run, noApply, passed, put}
 use Rattle.model.specs.declared.Bits.{Bits}
 use Rattle.model.proofs.Lists.{length-each}
@@ -25,9 +25,6 @@ use Rattle.runner.specs.declared.Ending.{Ending}
 use Rattle.runner.specs.declared.End.{End}
 use Rattle.runner.specs.declared.Side.{Side}
 use Rattle.runner.specs.States.{packetIn, held, stateIn, outcomeBy, endOf, EndsAs, sideAt}
-
-pub part-long : (n : ℕ) (ws : List ℕ) → n ≤ length ws → n ≡ length (take n ws)
-part-long n ws h = sym (length-take-le n ws h)
 
 -- an entry that is there is the first of those that are left
 pub next-entry : (choices : List ℕ) (used : ℕ) → used < length choices → drop used choices ≡ word choices used ∷ drop (used + 1) choices

@@ -12,20 +12,22 @@ use types.Run.{OneOf}
 use lib.Dec.{eqb, ltb}
 use lib.ListN.{length, drop-of-length-le}
 use Rattle.model.specs.Lists.{if_then_else_, word}
-use Rattle.model.specs.Blocks.{F, N, T, widths, pipelineNode, body}
+use Rattle.model.specs.Blocks.{F, N, T, R, widths, pipelineNode}
 use Rattle.model.specs.Nodes.{kinds, kindIn}
-use Rattle.model.specs.Trees.{Tree, Stmt, asValue, asTest, asStatement, tree, treeBy, truthOf, bitsIn, called}
-use Rattle.model.specs.Tables.{hit, matches, callOf}
+use Rattle.model.specs.Trees.{Tree, Stmt, asValue, asTest, asStatement, tree, treeBy, truthOf, bitsIn}
+use Rattle.model.specs.Tables.{hit, callOf}
 use Rattle.model.specs.Good.{Within, Good, GoodTest}
-use Rattle.model.specs.Runs.{State, Outcome, state, refused, andThen, takeSide, run, noApply}
-use Rattle.model.specs.Demands.{Accepted}
+use Rattle.model.specs.Runs.{State, Outcome, refused, andThen, takeSide, run, noApply}
+use Rattle.model.specs.declared.Hit.{Hit}
 use Rattle.model.specs.declared.Kind.{Kind}
 use Rattle.model.specs.declared.Node.{Node}
 use Rattle.model.proofs.Children.{BeforeAll}
 use Rattle.model.proofs.Accepted.{accepted-good}
-use Rattle.model.proofs.Hits.{hit-below}
 use Rattle.model.proofs.Kind as kinds-type
-use Rattle.values.specs.Ready.{Ready}
+use Rattle.actions.specs.declared.Action.{Action}
+use Rattle.actions.specs.declared.Scope.{Scope}
+use Rattle.actions.specs.Scopes.{Calls, tablesIn, statementOf}
+use Rattle.actions.proofs.Actions.{few-fields, called-is, body-below, body-good}
 use Rattle.values.proofs.Ready.{ready}
 use Rattle.values.proofs.Trees.{node-before, tree-at}
 use Rattle.values.proofs.Tags.{skips, skips-on}
@@ -33,12 +35,10 @@ use Rattle.runner.specs.declared.State.{State as Held}
 use Rattle.runner.specs.declared.Ending.{Ending}
 use Rattle.runner.specs.declared.End.{End}
 use Rattle.runner.specs.declared.Side.{Side}
-use Rattle.runner.specs.declared.Action.{Action}
-use Rattle.runner.specs.declared.Scope.{Scope}
-use Rattle.runner.specs.States.{packetIn, held, stateIn, outcomeBy, endOf, Stands, EndsAs, sideOf, sideAt, Calls, onApply, tablesIn, statementOf, runOf, Runnable}
+use Rattle.runner.specs.States.{packetIn, held, stateIn, outcomeBy, endOf, Stands, EndsAs, sideOf, sideAt, onApply, runOf, Runnable}
 use Rattle.runner.proofs.Ending as ending
 use Rattle.runner.proofs.Leaves.{next-entry}
-use Rattle.runner.proofs.Actions.{few-fields, hit-fits}
+use Rattle.runner.proofs.Actions.{hit-there}
 
 -- a node of the program is above every node inside a body, since a run goes from an apply into a body and never back
 abbrev pub depth : Bool → List ℕ → ℕ → ℕ
@@ -131,6 +131,9 @@ module _ {p r : List ℕ} {scope : Scope} {s : Held} {n t : ℕ} {node : Node} {
   only-outside true l = let k : ⊥ = omega arith in absurd k
   only-outside false l = (refl, l)
 
+  rules-below : (i : ℕ) → hit p r (packetIn p s) a ≡ Hit.Rule i → i < R r
+  rules-below = hit-there p r (packetIn p s) a refl
+
   module _ (e : kind ≡ Kind.Apply) where
     outside : (scope .inside ≡ false) × (a < T p)
     unfolding Good
@@ -140,16 +143,13 @@ module _ {p r : List ℕ} {scope : Scope} {s : Held} {n t : ℕ} {node : Node} {
     apply-asks = outside .1
 
     module _ (x : Action) (c : Calls p x (callOf p r a (hit p r (packetIn p s) a))) where
-      called-is : statementOf p (x .scope) (x .body) ≡ called p (callOf p r a (hit p r (packetIn p s) a))
-      called-is = rw (c .given, c .body)
-
       pub body-asks : Ask p r (x .scope) s t (x .body)
       body-asks =
-          let g = hit-fits p r (h .can .accepted) (hit p r (packetIn p s) a) a (λ i d. hit-below (matches p r (packetIn p s)) r a i d) apply-asks in
-          let l = accepted-good p r (h .can .accepted) .bodyBelow _ (g .0) in
+          let l = body-below p r (h .can .accepted) apply-asks rules-below x c in
+          let g = body-good p r (h .can .accepted) apply-asks rules-below x c in
           let k : depth (scope .inside) p n ≡ N p + n = ap (λ (i : Bool). depth i p n) (outside .0) in (
-            rw (c .inside) (omega (arith, c .body, l, k, h .start)),
-            record { accepted = h .can .accepted; within = h .can .within; below = rw (c .body) l; good = rw (c .inside, called-is) (g .1) },
+            rw (c .inside) (omega (arith, l, k, h .start)),
+            record { accepted = h .can .accepted; within = h .can .within; below = l; good = rw (c .inside) g },
           )
 
   -- ---- what the arms give
@@ -283,7 +283,7 @@ module _ {p r : List ℕ} {scope : Scope} {s : Held} {n t : ℕ} {node : Node} {
     module _ (e : kind ≡ Kind.Apply) (x : Action) (c : Calls p x (callOf p r a (hit p r (packetIn p s) a))) where
       pub apply-gives : (y : End) → EndsAs p choices y (runOf p r (x .scope) (x .body) (stateIn p choices s)) → Gives y
       unfolding run
-      apply-gives y g = rw (is _ e, outside e .0) (rw (c .inside, called-is e x c) at g)
+      apply-gives y g = rw (is _ e, outside e .0) (rw (c .inside, called-is p r (h .can .accepted) (apply-asks e) rules-below x c) at g)
 
     -- skip, and what is no statement
     pub rest-gives : OneOf skips (tagOf kinds-type.the-type kind) → (x : End) → x ≡ endOf s Ending.Passed → Gives x

@@ -2,21 +2,21 @@
 use Prim.Native.Nat.{ℕ, _≤_}
 use native.Mathlib.Omega.{arith}
 use mathlib.Core.Path.{_≡_, sym, ap, _∙_}
-use mathlib.Core.Bool.{false}
-use mathlib.Core.List.{List, [], _∷_}
+use mathlib.Core.List.{List, []}
 use lib.ListN.{length, take, drop}
 use lib.Seq.{take-append-seam}
 use Rattle.model.specs.Blocks.{F, root, widths}
-use Rattle.model.specs.Trees.{asStatement, tree}
 use Rattle.model.specs.Good.{Within}
-use Rattle.model.specs.Runs.{State, state, run, runTable, packetWidths, startPacket, start, pipelineRun}
+use Rattle.model.specs.Runs.{State, state, packetWidths, startPacket, start, pipelineRun}
 use Rattle.model.specs.Calls.{over}
 use Rattle.model.specs.Demands.{Accepted}
 use Rattle.model.proofs.Within.{within-length}
 use Rattle.model.proofs.Accepted.{accepted-good}
+use Rattle.actions.specs.declared.Scope.{Scope}
+use Rattle.actions.specs.Scopes.{programScope}
 use Rattle.runner.specs.declared.State.{State as Held}
 use Rattle.runner.specs.declared.End.{End}
-use Rattle.runner.specs.States.{held, stateIn, EndsAs, Runnable}
+use Rattle.runner.specs.States.{held, stateIn, EndsAs, runOf, Runnable}
 
 -- the packet stands at the start of the 32 words
 pub started : (packet ws before : List ℕ) → ws ≡ over packet before → (p choices : List ℕ) → length packet ≡ F p
@@ -36,16 +36,16 @@ module _ (p r packet : List ℕ) (accepted : Accepted p r) (within : Within (pac
   pub packet-few : length packet ≤ 32
   packet-few = omega (arith, packet-long, accepted-good p r accepted .counts .mostFields)
 
-  module _ (s : Held) (b : (q choices : List ℕ) → length packet ≡ F q → stateIn q choices s ≡ start q packet choices) (x n : ℕ) (e : x ≡ root p) (d : n ≡ x) where
-    pub root-runs : Runnable p r (record { inside = false; given = 0 ∷ 0 ∷ [] }) s n
-    root-runs = record {
+  module _ {scope : Scope} (g : scope ≡ programScope) (s : Held) (b : (q choices : List ℕ) → length packet ≡ F q → stateIn q choices s ≡ start q packet choices)
+      (x n : ℕ) (e : x ≡ root p) (d : n ≡ x) where
+    pub root-runs : Runnable p r scope s n
+    root-runs = rw g (record {
       accepted = accepted;
       within = rw (ap (λ (z : State). z .packet) (b p [] packet-long)) start-within;
       below = rw (d, e) (accepted-good p r accepted .rootBelow);
       good = rw (d, e) (accepted-good p r accepted .programGood);
-    }
+    })
 
-    pub runs-whole : (choices : List ℕ) (y : End) → EndsAs p choices y (run (widths p) (runTable p r) (asStatement (tree p (0 ∷ 0 ∷ []) n)) (stateIn p choices s))
-        → EndsAs p choices y (pipelineRun p r packet choices)
+    pub runs-whole : (choices : List ℕ) (y : End) → EndsAs p choices y (runOf p r scope n (stateIn p choices s)) → EndsAs p choices y (pipelineRun p r packet choices)
     unfolding pipelineRun
-    runs-whole choices y h = rw (← b p choices packet-long, ← e, ← d) h
+    runs-whole choices y h = rw (← b p choices packet-long, ← e, ← d) (rw g at h)

@@ -6,18 +6,17 @@ use mathlib.Core.List.{List}
 use lib.Dec.{eqb, ltb}
 use lib.ListN.{length, take, drop}
 use Rattle.model.specs.Lists.{if_then_else_, word}
-use Rattle.model.specs.Blocks.{F, N, T, widths, Call, body}
-use Rattle.model.specs.Trees.{Stmt, asStatement, tree}
+use Rattle.model.specs.Blocks.{F, N, widths}
 use Rattle.model.specs.Good.{Within, Good}
 use Rattle.model.specs.Runs.{State, state, Outcome, passed, blocked, failed, refused, run, noApply, runTable}
 use Rattle.model.specs.Demands.{Accepted}
+use Rattle.actions.specs.declared.Scope.{Scope}
+use Rattle.actions.specs.Scopes.{tablesIn, statementOf}
 use Rattle.values.specs.Ready.{Ready}
 use Rattle.runner.specs.declared.State.{State as Held}
 use Rattle.runner.specs.declared.Ending.{Ending}
 use Rattle.runner.specs.declared.End.{End}
 use Rattle.runner.specs.declared.Side.{Side}
-use Rattle.runner.specs.declared.Action.{Action}
-use Rattle.runner.specs.declared.Scope.{Scope}
 
 -- the packet is the first F of the 32 words, and the entries that are left are those after the used ones
 abbrev pub packetIn : List ℕ → Held → List ℕ
@@ -57,23 +56,10 @@ sideOf a b entry = if eqb entry 0 then Side.Node a else if eqb entry 1 then Side
 unfoldable pub sideAt : List ℕ → ℕ → ℕ → ℕ → Side
 sideAt choices used a b = if ltb used (length choices) then sideOf a b (word choices used) else Side.Short
 
--- the body of the action that is called, with its data
-pub record Calls (p : List ℕ) (a : Action) (c : Call) : Type 0 where
-  pub body : a .body ≡ body p (c .action)
-  pub inside : a .scope .inside ≡ true
-  pub given : a .scope .given ≡ c .«data»
-
 -- in an action's body there is no apply
 abbrev pub onApply : Bool → List ℕ → List ℕ → ℕ → State → Outcome
 onApply true p r = noApply
 onApply false p r = runTable p r
-
-abbrev pub tablesIn : Bool → List ℕ → ℕ
-tablesIn true p = 0
-tablesIn false p = T p
-
-abbrev pub statementOf : List ℕ → Scope → ℕ → Stmt
-statementOf p scope n = asStatement (tree p (scope .given) n)
 
 abbrev pub runOf : List ℕ → List ℕ → Scope → ℕ → State → Outcome
 runOf p r scope n = run (widths p) (onApply (scope .inside) p r) (statementOf p scope n)

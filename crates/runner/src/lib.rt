@@ -1,5 +1,10 @@
 // Lookup, Run and Confirm: a pipeline, accepted with its rules, on one packet. A run calls itself on child nodes and carries its state by
 // value, so that nothing is written before it has ended.
+use actions::Action;
+use actions::Scope;
+use actions::action_of;
+use actions::program;
+use areas::first;
 use model::Checked;
 use model::Confirmed;
 use model::Hit;
@@ -11,9 +16,9 @@ ghost use mathlib.Core.Path.{_≡_};
 ghost use mathlib.Core.List.{List, []};
 ghost use lib.Dec.{ltb};
 ghost use Prim.Native.Nat.{ℕ, _+_, _≤_, _<_, _^_};
-ghost use lib.ListN.{length, take, set};
+ghost use lib.ListN.{length, set};
 ghost use Rattle.model.specs.Lists.{if_then_else_, word, part};
-ghost use Rattle.model.specs.Blocks.{F, N, A as actions, T, widths, callAt};
+ghost use Rattle.model.specs.Blocks.{F, N, T, widths};
 ghost use Rattle.model.specs.Trees.{Stmt, asValue, asTest, tree, truthOf, bitsIn};
 ghost use Rattle.model.specs.Tables.{hit, partOf, callOf};
 ghost use Rattle.model.specs.Good.{Within, GoodTest, Good};
@@ -23,7 +28,8 @@ ghost use Rattle.model.specs.Refusals.{judge, packetRows};
 ghost use Rattle.model.specs.Calls.{over, startRows, lookup, wordsInto, LooksUp, ended, Tells, Runs, failsWhole, Confirms};
 ghost use Rattle.model.specs.Demands.{Accepted};
 ghost use Rattle.blocks.specs.Whole.{Whole};
-ghost use Rattle.runner.specs.States.{packetIn, stateIn, outcomeBy, Stands, EndsAs, sideAt, held, endOf, Calls, Runnable, runOf};
+ghost use Rattle.actions.specs.Scopes.{Calls};
+ghost use Rattle.runner.specs.States.{packetIn, stateIn, outcomeBy, Stands, EndsAs, sideAt, held, endOf, Runnable, runOf};
 ghost use Rattle.runner.specs.Parts.{Inside};
 
 // Where a run stands: the packet in the first F words, and how many entries were used.
@@ -50,14 +56,6 @@ fn end_of(s: State, how: Ending) -> End
     ensures { λ e. ⌜ e ≡ endOf s how ⌝ }
 {
     End { state: s, how: how }
-}
-
-// The packet's F values.
-fn fields(packet: &[u32], count: usize) -> &[u32]
-    requires { ⌜ count ≤ length (now packet) ⌝ }
-    ensures { λ r. ⌜ now r ≡ take count (now (packet .entry)) ⌝ }
-{
-    &packet[..count]
 }
 
 // The state with field f set to x.
@@ -94,7 +92,7 @@ fn assign(p: &[u32], given: &[u32; 2], s: State, f: usize, v: usize) -> End
         (run (widths (now (p .entry))) noApply (Stmt.assign f (asValue (tree (now (p .entry)) (now (given .entry)) v))) (stateIn (now (p .entry)) choices s))) ⌝ }
 {
     let count = blocks::field_count(p);
-    let x = values::bits_at(p, given, fields(&s.packet, count), v);
+    let x = values::bits_at(p, given, first(&s.packet, count), v);
     end_of(stored(s, f, x.number), Ending::Passed)
 }
 
@@ -108,7 +106,7 @@ fn tested(p: &[u32], given: &[u32; 2], s: State, t: usize, how: Ending) -> End
         (stateIn (now (p .entry)) choices s))) ⌝ }
 {
     let count = blocks::field_count(p);
-    if values::truth_at(p, given, fields(&s.packet, count), t) {
+    if values::truth_at(p, given, first(&s.packet, count), t) {
         end_of(s, Ending::Passed)
     } else {
         end_of(s, how)
@@ -154,48 +152,15 @@ fn next_side(choices: &[u32], used: usize, a: usize, b: usize) -> Side
     }
 }
 
-// Where a statement stands: in the program, or inside an action's body with the data that stand for its parameters.
-pub struct Scope {
-    pub inside: bool,
-    pub given: [u32; 2],
-}
-
-// What a table's rule or its default runs.
-pub struct Action {
-    pub body: usize,
-    pub scope: Scope,
-}
-
-// The action that is called by the three words at a place.
-fn action_at(p: &[u32], ws: &[u32], at: usize) -> Action
-    requires { ⌜ Whole (now p) ⌝ }
-    requires { ⌜ at + 3 ≤ length (now ws) ⌝ }
-    requires { ⌜ word (now ws) at < actions (now p) ⌝ }
-    ensures { λ a. ⌜ Calls (now (p .entry)) a (callAt (now (ws .entry)) at) ⌝ }
-{
-    let action = ws[at] as usize;
-    let scope = Scope {
-        inside: true,
-        given: [ws[at + 1], ws[at + 2]],
-    };
-    Action {
-        body: blocks::body(p, action) as usize,
-        scope: scope,
-    }
-}
-
 // The action of the rule of table t that hits, or of its default. The table is looked up once, before anything of it runs.
-fn action_of(p: &[u32], r: &[u32], s: State, t: usize) -> Action
+fn applied(p: &[u32], r: &[u32], s: State, t: usize) -> Action
     requires { ⌜ Accepted (now p) (now r) ⌝ }
     requires { ⌜ Stands (now p) s ⌝ }
     requires { ⌜ t < T (now p) ⌝ }
     ensures { λ a. ⌜ Calls (now (p .entry)) a (callOf (now (p .entry)) (now (r .entry)) t (hit (now (p .entry)) (now (r .entry)) (packetIn (now (p .entry)) s) t)) ⌝ }
 {
     let count = blocks::field_count(p);
-    match tables::hit(p, r, fields(&s.packet, count), t) {
-        Hit::Rule(i) => action_at(p, r, blocks::call_place(r, i)),
-        Hit::Default => action_at(p, p, blocks::default_place(p, t)),
-    }
+    action_of(p, r, t, tables::hit(p, r, first(&s.packet, count), t))
 }
 
 // The run of the statement at node n.
@@ -228,7 +193,7 @@ fn run_at(p: &[u32], r: &[u32], choices: &[u32], scope: Scope, s: State, n: usiz
             Side::Short => end_of(s, Ending::Short),
         },
         Kind::Apply => {
-            let action = action_of(p, r, s, a);
+            let action = applied(p, r, s, a);
             run_at(p, r, choices, action.scope, s, action.body)
         }
         _ => end_of(s, Ending::Passed),
@@ -254,12 +219,8 @@ fn run_whole(p: &[u32], r: &[u32], packet: &[u32], choices: &[u32]) -> End
     requires { ⌜ Within (packetWidths (now p)) (now packet) ⌝ }
     ensures { λ e. ⌜ EndsAs (now (p .entry)) (now (choices .entry)) e (pipelineRun (now (p .entry)) (now (r .entry)) (now (packet .entry)) (now (choices .entry))) ⌝ }
 {
-    let program = Scope {
-        inside: false,
-        given: [0; 2],
-    };
     let root = blocks::root(p) as usize;
-    run_at(p, r, choices, program, start(packet), root)
+    run_at(p, r, choices, program(), start(packet), root)
 }
 
 // 11, for fields of 1 to 32 bits.
@@ -343,7 +304,7 @@ fn leave(p: &[u32], s: State, end: &mut [u32])
     requires { ⌜ F (now p) ≤ length (now end) ⌝ }
     ensures { λ _. ⌜ now (end .exit) ≡ over (packetIn (now (p .entry)) s) (now (end .entry)) ⌝ }
 {
-    areas::put(fields(&s.packet, blocks::field_count(p)), end);
+    areas::put(first(&s.packet, blocks::field_count(p)), end);
 }
 
 // What Run answers, by how the run has ended.

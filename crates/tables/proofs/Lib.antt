@@ -3,3 +3,4 @@ pub mod Fitting
 pub mod Keys
 pub mod Order
 pub mod Scan
+pub mod Rest

@@ -1,27 +1,32 @@
 -- Laws of an order: how a list in that order grows, and what is found first in it. Assumes nothing.
-use Prim.Native.Nat.{ℕ, zero, suc, _+_, _<_}
+use Prim.Native.Nat.{ℕ, zero, suc, _+_, _<_, _≤_}
+use native.Mathlib.Nat.{not-suc-le-zero, le-of-suc-le-suc, eq-or-lt-of-le}
 use native.Mathlib.Numerals.{add-one}
 use native.Mathlib.Omega.{arith}
 use mathlib.Core.Path.{_≡_, refl, sym, _∙_, ap}
 use mathlib.Core.Bool.{Bool, true, false, not, _&&_, false≢true}
+use mathlib.Core.Logic.{_⊎_, inl, inr}
 use mathlib.Core.List.{List, [], _∷_, _++_, append-nil}
-use lib.Dec.{ltb}
+use lib.Dec.{eqb, ltb}
+use lib.ListN.{length}
 use borrow.Author.Tests.{lt-ltb, le-ltb, ltb-true, ltb-false}
-use Rattle.model.specs.Lists.{if_then_else_, each, those}
+use Rattle.model.specs.Lists.{if_then_else_, each, those, times, among}
 use Rattle.model.specs.Tables.{triedBefore, placed, ordered, firstThat}
 use Rattle.model.specs.declared.Hit.{Hit}
-use Rattle.model.proofs.Every.{All, all-each, all-placed, all-ordered, all-those, all-with}
+use Rattle.model.proofs.Every.{All, all-each, all-placed, all-ordered, all-those, all-with, among-here, among-there}
 use Rattle.model.proofs.Hits.{first-has}
 use Rattle.tables.specs.Scan.{orderedTo, precedes}
 
--- of two that differ exactly one is before the other, and what is before the first of them is before the second
+-- Nothing is before itself, of two that differ exactly one is before the other, and what is before the first of them is before the second.
 pub record Order (before : ℕ → ℕ → Bool) : Type 0 where
+  pub itself : (i : ℕ) → before i i ≡ false
   pub one : (i j : ℕ) → (i ≡ j → ⊥) → before j i ≡ not (before i j)
   pub through : (i j k : ℕ) → before i j ≡ true → before j k ≡ true → before i k ≡ true
 
 -- the order in which rules are tried: nothing else here knows it
 pub tried-order : (r : List ℕ) → Order (triedBefore r)
 tried-order r = record {
+  itself = λ i. le-ltb i i (omega arith);
   one = λ i j d. go i j d (ltb i j) refl;
   through = λ i j k h l. lt-ltb i k (omega (arith, ltb-true i j h, ltb-true j k l));
 }
@@ -44,6 +49,39 @@ those-append test (x ∷ xs) ys = go (test x) (those-append test xs ys)
 two-ways : (i x : ℕ) (b : Bool) (zs : List ℕ) → (if b then i ∷ x ∷ zs else x ∷ i ∷ zs) ≡ (if not b then x ∷ i ∷ zs else i ∷ x ∷ zs)
 two-ways i x true zs = refl
 two-ways i x false zs = refl
+
+-- what is placed stands in the list, beside what stood there
+module _ (before : ℕ → ℕ → Bool) (i : ℕ) where
+  times-placed : (x : ℕ) (js : List ℕ) → times x (placed before i js) ≡ times x (i ∷ js)
+  unfolding placed times
+  times-placed x [] = refl
+  times-placed x (j ∷ js) = go (before i j) (times-placed x js)
+    where
+      more : Bool → ℕ → ℕ
+      more b n = if b then suc n else n
+
+      either-way : (a b : Bool) (n : ℕ) → more a (more b n) ≡ more b (more a n)
+      either-way true true n = refl
+      either-way true false n = refl
+      either-way false b n = refl
+
+      go : (b : Bool) → times x (placed before i js) ≡ times x (i ∷ js)
+          → times x (if b then i ∷ j ∷ js else j ∷ placed before i js) ≡ times x (i ∷ j ∷ js)
+      go true rec = refl
+      go false rec = rw rec (either-way (eqb x j) (eqb x i) (times x js))
+
+  length-placed : (js : List ℕ) → length (placed before i js) ≡ suc (length js)
+  unfolding placed
+  length-placed [] = refl
+  length-placed (j ∷ js) = go (before i j) (length-placed js)
+    where
+      go : (b : Bool) → length (placed before i js) ≡ suc (length js)
+          → length (if b then i ∷ j ∷ js else j ∷ placed before i js) ≡ suc (suc (length js))
+      go true rec = refl
+      go false rec = ap suc rec
+
+  among-placed : (x : ℕ) (js : List ℕ) → among x (i ∷ js) ≡ true → among x (placed before i js) ≡ true
+  among-placed x js h = rw (times-placed x js) h
 
 -- what is below n is not n
 all-other : (n : ℕ) (xs : List ℕ) → All (λ x. x < n) xs → All (λ x. x ≡ n → ⊥) xs
@@ -163,6 +201,31 @@ module _ (before : ℕ → ℕ → Bool) (own : ℕ → Bool) where
         go : (b : Bool) → own n ≡ b → Sorted before (orderedTo before own n) → Sorted before (orderedTo before own (suc n))
         go true e s = rw (← add-one n, to-own n e) (sorted-placed before o n (orderedTo before own n) (all-other n (orderedTo before own n) (to-below n)) s)
         go false e s = rw (← add-one n, to-other n e) s
+
+    -- all that belong are there, and no more than there are below n
+    pub to-there : (n i : ℕ) → i < n → own i ≡ true → among i (orderedTo before own n) ≡ true
+    to-there zero i h k = absurd (not-suc-le-zero h)
+    to-there (suc n) i h k = go (own n) refl (eq-or-lt-of-le (le-of-suc-le-suc h)) (λ l. to-there n i l k)
+      where
+        below : List ℕ
+        below = orderedTo before own n
+
+        go : (b : Bool) → own n ≡ b → (i ≡ n) ⊎ (i < n) → (i < n → among i below ≡ true) → among i (orderedTo before own (suc n)) ≡ true
+        go true e (inl d) rec = rw (← add-one n, to-own n e, d) (among-placed before n n below (among-here n below))
+        go true e (inr l) rec = rw (← add-one n, to-own n e) (among-placed before n i below (among-there i n below (rec l)))
+        go false e (inl d) rec = absurd (false≢true (sym e ∙ rw (← d) k))
+        go false e (inr l) rec = rw (← add-one n, to-other n e) (rec l)
+
+    pub to-few : (n : ℕ) → length (orderedTo before own n) ≤ n
+    to-few zero = rw to-none (omega arith)
+    to-few (suc n) = go (own n) refl (to-few n)
+      where
+        below : List ℕ
+        below = orderedTo before own n
+
+        go : (b : Bool) → own n ≡ b → length below ≤ n → length (orderedTo before own (suc n)) ≤ suc n
+        go true e rec = rw (← add-one n, to-own n e) (omega (arith, length-placed before n below))
+        go false e rec = rw (← add-one n, to-other n e) (omega arith)
 
     -- what is found first, with one more that belongs
     pub first-own : (test : ℕ → Bool) (n : ℕ) → own n ≡ true → let best = firstThat test (orderedTo before own n) in

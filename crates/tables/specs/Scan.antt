@@ -6,7 +6,7 @@ use Rattle.bits.specs.Width as bits
 use lib.Dec.{ltb}
 use Rattle.model.specs.Lists.{if_then_else_, each, those, word}
 use Rattle.model.specs.Blocks.{key, value, mask}
-use Rattle.model.specs.Tables.{matches, triedBefore, ofTable, ordered, firstThat}
+use Rattle.model.specs.Tables.{triedBefore, ofTable, ordered, firstThat}
 use Rattle.model.specs.declared.Hit.{Hit}
 
 -- key j of rule i, whose table is t, matches
@@ -17,9 +17,9 @@ keyMatches p r packet i t j = bits.under (mask r i j) (value r i j) (word packet
 unfoldable pub orderedTo : (ℕ → ℕ → Bool) → (ℕ → Bool) → ℕ → List ℕ
 orderedTo before own n = ordered before (those own (each (λ i. i) n))
 
--- which of the rules of table t below n hits
-unfoldable pub hitTo : List ℕ → List ℕ → List ℕ → ℕ → ℕ → Hit
-hitTo p r packet t n = firstThat (matches p r packet) (orderedTo (triedBefore r) (ofTable r t) n)
+-- of the rules of table t below n, the first tried of which the test holds
+unfoldable pub firstTo : List ℕ → ℕ → (ℕ → Bool) → ℕ → Hit
+firstTo r t test n = firstThat test (orderedTo (triedBefore r) (ofTable r t) n)
 
 -- i stands before what is found; before the default everything does
 abbrev pub precedes : (ℕ → ℕ → Bool) → ℕ → Hit → Bool

@@ -5,7 +5,8 @@ ghost use Prim.Native.Nat.{_+_, _<_};
 ghost use Rattle.model.specs.Blocks.{R, keyCount, tableOf};
 ghost use Rattle.model.specs.Tables.{matches, triedBefore, hit};
 ghost use Rattle.tables.specs.Fitting.{Fitting};
-ghost use Rattle.tables.specs.Scan.{keyMatches, precedes, hitTo, hitFrom};
+ghost use Rattle.tables.specs.Next.{comesAfter, nextAfter};
+ghost use Rattle.tables.specs.Scan.{keyMatches, precedes, firstTo, hitFrom};
 
 fn table_of(r: &[u32], i: usize) -> usize
     requires { ⌜ i < R (now r) ⌝ }
@@ -69,13 +70,24 @@ fn precedes(r: &[u32], i: usize, best: usize) -> bool
 fn better(p: &[u32], r: &[u32], packet: &[u32], t: usize, i: usize, best: usize) -> usize
     requires { ⌜ Fitting (now p) (now r) (now packet) ⌝ }
     requires { ⌜ i < R (now r) ⌝ }
-    requires { ⌜ hitFrom (R (now r)) best ≡ hitTo (now p) (now r) (now packet) t i ⌝ }
-    ensures { λ n. ⌜ hitFrom (R (now (r .entry))) n ≡ hitTo (now (p .entry)) (now (r .entry)) (now (packet .entry)) t (i + 1) ⌝ }
+    requires { ⌜ hitFrom (R (now r)) best ≡ firstTo (now r) t (matches (now p) (now r) (now packet)) i ⌝ }
+    ensures { λ n. ⌜ hitFrom (R (now (r .entry))) n ≡ firstTo (now (r .entry)) t (matches (now (p .entry)) (now (r .entry)) (now (packet .entry))) (i + 1) ⌝ }
 {
     if table_of(r, i) == t && precedes(r, i, best) && matches(p, r, packet, i) {
         i
     } else {
         best
+    }
+}
+
+// What a scan kept.
+fn hit_from(count: usize, best: usize) -> Hit
+    ensures { λ h. ⌜ h ≡ hitFrom count best ⌝ }
+{
+    if best < count {
+        Hit::Rule(best)
+    } else {
+        Hit::Default
     }
 }
 
@@ -90,9 +102,40 @@ pub fn hit(p: &[u32], r: &[u32], packet: &[u32], t: usize) -> Hit
         best = better(p, r, packet, t, i, best);
         i += 1;
     }
-    if best < count {
-        Hit::Rule(best)
+    hit_from(count, best)
+}
+
+// Behind a number that no rule has, every rule comes.
+fn comes_after(r: &[u32], after: usize, i: usize) -> bool
+    requires { ⌜ i < R (now r) ⌝ }
+    ensures { λ b. ⌜ b ≡ comesAfter (now (r .entry)) after i ⌝ }
+{
+    blocks::rule_count(r) <= after || tried_before(r, after, i)
+}
+
+// As `better`, among the rules that come after one.
+fn nearer(r: &[u32], t: usize, after: usize, i: usize, best: usize) -> usize
+    requires { ⌜ i < R (now r) ⌝ }
+    requires { ⌜ hitFrom (R (now r)) best ≡ firstTo (now r) t (comesAfter (now r) after) i ⌝ }
+    ensures { λ n. ⌜ hitFrom (R (now (r .entry))) n ≡ firstTo (now (r .entry)) t (comesAfter (now (r .entry)) after) (i + 1) ⌝ }
+{
+    if table_of(r, i) == t && precedes(r, i, best) && comes_after(r, after, i) {
+        i
     } else {
-        Hit::Default
+        best
     }
+}
+
+// The rule of table t that is tried after a rule, or behind a number that no rule has, the first one; else the default.
+pub fn next(r: &[u32], t: usize, after: usize) -> Hit
+    ensures { λ h. ⌜ h ≡ nextAfter (now (r .entry)) t after ⌝ }
+{
+    let count = blocks::rule_count(r);
+    let mut best = count;
+    let mut i = 0;
+    while i < count {
+        best = nearer(r, t, after, i, best);
+        i += 1;
+    }
+    hit_from(count, best)
 }

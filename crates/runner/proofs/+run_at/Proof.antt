@@ -3,14 +3,14 @@ use Prim.Native.Nat.{ℕ, _<_}
 use borrow.Author.Needs.{needs}
 use borrow.Fn.Kinds.{In}
 use borrow.Fn.PlainCycle.{Measures, is, falls, and}
-use Rattle.runner.proofs.Actions.{whole}
+use Rattle.actions.proofs.Actions.{whole}
 use Rattle.runner.proofs.Steps.{depth, Here, stands, assign-asks, havoc-asks, assume-asks, assert-asks, left-asks, right-asks, side-fits, side-asks, apply-asks, body-asks, arm-gives}
 use Rattle.runner.proofs.run_at.Reads as run-at
 use Rattle.runner.proofs.run_at.Kinds as run-at-kinds
 use Rattle.runner.proofs.+run_at.Lts-run_at as lts
 use Rattle.blocks.proofs.node.Reads as node
 use Rattle.nodes.proofs.kind_in.Reads as kind-in
-use Rattle.runner.proofs.action_of.Reads as action-of
+use Rattle.runner.proofs.applied.Reads as applied
 use Rattle.runner.proofs.assign.Reads as assign
 use Rattle.runner.proofs.end_of.Reads as end-of
 use Rattle.runner.proofs.havoc.Reads as havoc
@@ -32,7 +32,7 @@ run-at-below t = and 3 run-at-kinds.ps (falls 3 run-at-kinds.ps _<_ μ t) run-at
 
 -- what it knows of the functions that it calls
 abbrev calls : ℕ → lts.Claims
-calls t = (node.Asked, node.Learnt, kind-in.Asked, kind-in.Learnt, assign.Asked, assign.Learnt, havoc.Asked, havoc.Learnt, tested.Asked, tested.Learnt, run-at-below t, run-at.Post, next-side.Asked, next-side.Learnt, taken.Asked, taken.Learnt, end-of.Asked, end-of.Learnt, action-of.Asked, action-of.Learnt)
+calls t = (node.Asked, node.Learnt, kind-in.Asked, kind-in.Learnt, assign.Asked, assign.Learnt, havoc.Asked, havoc.Learnt, tested.Asked, tested.Learnt, run-at-below t, run-at.Post, next-side.Asked, next-side.Learnt, taken.Asked, taken.Learnt, end-of.Asked, end-of.Learnt, applied.Asked, applied.Learnt)
 
 -- what is known where the node has been read
 here : (t : ℕ) (c : lts.After-kind-in (calls t) (run-at-at t) run-at.Post)
@@ -71,8 +71,8 @@ pub +run-at-spec : {M : Type 1} → statement M
     (λ c. search needs)  -- enum-told-9
     (λ c κs. search needs)  -- end-of-requires-2
     (λ c. search needs)  -- enum-told-10
-    (λ c κs. let h = here t (c .before .before) in (h .can .accepted, (stands h, apply-asks h (c .enum-told10 .given .1))))  -- action-of-requires
-    (λ c κs. body-asks (here t (c .before .before .before)) (c .before .enum-told10 .given .1) _ (c .action-of .ensures))  -- run-at-requires-4
+    (λ c κs. let h = here t (c .before .before) in (h .can .accepted, (stands h, apply-asks h (c .enum-told10 .given .1))))  -- applied-requires
+    (λ c κs. body-asks (here t (c .before .before .before)) (c .before .enum-told10 .given .1) _ (c .applied .ensures))  -- run-at-requires-4
     (λ c κs. search needs)  -- end-of-requires-3
     (λ c. search (arm-gives, here t (c .before .before .before .before .before)))  -- returns
     (λ c. search (arm-gives, here t (c .before .before .before)))  -- returns-2

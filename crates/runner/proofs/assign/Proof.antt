@@ -7,8 +7,8 @@ use Rattle.runner.proofs.assign.Tie as tie
 pub assign-spec : {M : Type 1} → statement M
 assign-spec = tie.close (tie.spec
     (λ c κs. search needs)  -- field-count-requires
-    (λ c κs. search needs)  -- fields-requires
+    (λ c κs. search needs)  -- first-requires
     (λ c κs. search (needs, lent, assigns-value))  -- bits-at-requires
     (λ c κs. search assigns-place)  -- stored-requires
-    (λ c κs. search needs)  -- ended-requires
+    (λ c κs. search needs)  -- end-of-requires
     (λ c. search assigned))  -- returns

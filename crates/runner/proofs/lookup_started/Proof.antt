@@ -1,5 +1,6 @@
 -- `runner::lookup_started` meets its contract. Assumes nothing.
-use Rattle.runner.proofs.Actions.{whole, rule-below}
+use Rattle.actions.proofs.Actions.{whole}
+use Rattle.runner.proofs.Actions.{hit-there}
 use Rattle.runner.proofs.Answered.{lends, no-table, table-below, rule-found, default-found, rule-inside, default-inside}
 use borrow.Author.Needs.{needs}
 use Rattle.runner.proofs.lookup_started.Statement.{statement}
@@ -11,7 +12,7 @@ lookup-started-spec = tie.close (tie.spec
     (λ c. search (needs, no-table))  -- returns
     (λ c κs. search lends)  -- hit-requires
     (λ c. search needs)  -- enum-known-i
-    (λ c κs. search rule-below)  -- call-place-requires
+    (λ c κs. search hit-there)  -- call-place-requires
     (λ c. search needs)  -- enum-told
     (λ c κs. search (whole, table-below))  -- default-place-requires
     (λ c. search (rule-found, rule-inside))  -- returns-2

@@ -1,5 +1,5 @@
 -- `runner::run_whole` meets its contract. Assumes nothing.
-use Rattle.runner.proofs.Actions.{whole}
+use Rattle.actions.proofs.Actions.{whole}
 use Rattle.runner.proofs.Whole.{packet-few, root-runs, runs-whole}
 use borrow.Author.Needs.{needs}
 use Rattle.runner.proofs.run_whole.Statement.{statement}
@@ -9,6 +9,7 @@ pub run-whole-spec : {M : Type 1} → statement M
 run-whole-spec = tie.close (tie.spec
     (λ c κs. search whole)  -- root-requires
     (λ c. search needs)  -- cast-root
+    (λ c κs. search needs)  -- program-requires
     (λ c κs. search packet-few)  -- start-requires
     (λ c κs. search root-runs)  -- run-at-requires
     (λ c. search runs-whole))  -- returns

@@ -7,9 +7,9 @@ use Rattle.runner.proofs.tested.Tie as tie
 pub tested-spec : {M : Type 1} → statement M
 tested-spec = tie.close (tie.spec
     (λ c κs. search needs)  -- field-count-requires
-    (λ c κs. search needs)  -- fields-requires
+    (λ c κs. search needs)  -- first-requires
     (λ c κs. search (needs, lent))  -- truth-at-requires
-    (λ c κs. search needs)  -- ended-requires
-    (λ c κs. search needs)  -- ended-requires-2
+    (λ c κs. search needs)  -- end-of-requires
+    (λ c κs. search needs)  -- end-of-requires-2
     (λ c. search test-holds)  -- returns
     (λ c. search test-fails))  -- returns-2

@@ -4,13 +4,14 @@ use native.Mathlib.Omega.{arith}
 use mathlib.Core.Path.{_≡_}
 use borrow.Author.Needs.{needs}
 use Rattle.model.specs.Blocks.{R}
-use Rattle.tables.specs.Scan.{hitTo, hitFrom}
-use Rattle.tables.proofs.Scan.{hit-none, hit-rule, hit-default}
+use Rattle.model.specs.Tables.{matches}
+use Rattle.tables.specs.Scan.{firstTo, hitFrom}
+use Rattle.tables.proofs.Scan.{none-yet, found}
 use Rattle.tables.proofs.hit.Statement.{statement}
 use Rattle.tables.proofs.hit.Tie as tie
 
 abbrev Inv-loop : tie.InvT-loop
-Inv-loop p r packet t count best₀ i₀ best i = (i ≤ count) × (hitFrom (R r) best ≡ hitTo p r packet t i)
+Inv-loop p r packet t count best₀ i₀ best i = (i ≤ count) × (hitFrom (R r) best ≡ firstTo r t (matches p r packet) i)
 
 abbrev μ-loop : tie.MeasureT-loop
 μ-loop p r packet t count best₀ i₀ best i = count - i
@@ -18,10 +19,10 @@ abbrev μ-loop : tie.MeasureT-loop
 pub hit-spec : {M : Type 1} → statement M
 hit-spec = tie.close (tie.spec Inv-loop μ-loop
     (λ c κs. search needs)  -- rule-count-requires
-    (λ c. (omega arith, search hit-none))  -- loop-holds
+    (λ c. (omega arith, search none-yet))  -- loop-holds
     (λ c κs. (search needs, (omega (arith, c .before .before .rule-count .ensures), search needs)))  -- better-requires
     (λ c. omega arith)  -- add-i
     (λ c. omega arith)  -- loop-less
     (λ c. (omega arith, c .better .ensures))  -- loop-again
-    (λ c. search hit-rule)  -- returns
-    (λ c. search hit-default))  -- returns-2
+    (λ c κs. search needs)  -- hit-from-requires
+    (λ c. search found))  -- returns

@@ -1,0 +1,2 @@
+-- Laws of actions.
+pub mod Actions

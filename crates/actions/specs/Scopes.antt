@@ -1,0 +1,26 @@
+-- Where a statement stands, and what an action that is called runs. Assumes nothing: these are definitions.
+use Prim.Native.Nat.{ℕ}
+use mathlib.Core.Path.{_≡_}
+use mathlib.Core.Bool.{Bool, true, false}
+use mathlib.Core.List.{List}
+use Rattle.model.specs.Blocks.{T, Call, body}
+use Rattle.model.specs.Trees.{Stmt, asStatement, tree, noData}
+use Rattle.actions.specs.declared.Action.{Action}
+use Rattle.actions.specs.declared.Scope.{Scope}
+
+abbrev pub programScope : Scope
+programScope = record { inside = false; given = noData }
+
+-- the body of the action that is called, with its data
+pub record Calls (p : List ℕ) (a : Action) (c : Call) : Type 0 where
+  pub body : a .body ≡ body p (c .action)
+  pub inside : a .scope .inside ≡ true
+  pub given : a .scope .given ≡ c .«data»
+
+-- in an action's body there is no apply
+abbrev pub tablesIn : Bool → List ℕ → ℕ
+tablesIn true p = 0
+tablesIn false p = T p
+
+abbrev pub statementOf : List ℕ → Scope → ℕ → Stmt
+statementOf p scope n = asStatement (tree p (scope .given) n)

@@ -1,0 +1,2 @@
+-- Laws of guards.
+mod Guards

@@ -1,0 +1,2 @@
+-- What the contracts of the listing cite.
+pub mod Lines

@@ -1,0 +1,22 @@
+-- `listing::main` meets its contract. Assumes nothing.
+use native.Mathlib.Omega.{arith}
+use mathlib.Core.Path.{sym}
+use borrow.Author.Needs.{needs}
+use lib.Seq.{length-take-le}
+use Rattle.listing.proofs.main.Statement.{statement}
+use Rattle.listing.proofs.main.Tie as tie
+
+pub main-spec : {M : Type 1} → statement M
+main-spec = tie.close (tie.spec
+    (λ c κs. search needs)  -- file-area-requires
+    (λ c. search needs)  -- slice-aggregate-read-full
+    (λ c κs. search needs)  -- read-full-requires
+    (λ c κs. search needs)  -- text-area-requires
+    (λ c. search needs)  -- array-share-prefix-file
+    (λ c. search needs)  -- slice-aggregate-listing
+    (λ c. search needs)  -- slice-aggregate-listing-2
+    (λ c κs. search needs)  -- listing-requires
+    (λ c. search needs)  -- array-share-prefix-text
+    (λ c. let h = c .before .before .listing in sym (length-take-le _ _ (omega (arith, h .ensures .room, h .kept .1 .0))))  -- slice-aggregate-write-all
+    (λ c κs. search needs)  -- write-all-requires
+    (λ c. search needs))  -- returns

@@ -1,0 +1,3 @@
+-- Laws of writing a text.
+pub mod Pieces
+pub mod Decimals

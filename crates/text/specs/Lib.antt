@@ -1,0 +1,2 @@
+-- What the contracts of writing a text cite.
+pub mod Adds
