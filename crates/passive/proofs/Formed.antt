@@ -1,23 +1,23 @@
 -- The variables that the form starts from, the whole form, and what Passify then answers. Assumes nothing.
-use Prim.Native.Nat.{ℕ, zero, suc, _+_, _*_, _≤_, _<_}
+use Prim.Native.Nat.{ℕ, suc, _+_, _*_, _≤_, _<_}
 use native.Mathlib.Nat.{zero-add}
 use native.Mathlib.Decide.{decLe}
 use native.Mathlib.Numerals.{add-one}
 use native.Mathlib.Omega.{arith}
 use mathlib.Core.Path.{_≡_, refl, sym, ap, _∙_}
-use mathlib.Core.Bool.{Bool, true, false}
+use mathlib.Core.Bool.{true, false}
 use mathlib.Core.List.{List, [], _∷_, _++_}
 use borrow.Author.Tests.{le-leb, lt-leb}
 use lib.Dec.{leb}
 use lib.ListN.{set, length, take, length-set}
 use lib.Seq.{take-set-le, take-suc-set}
 use Rattle.model.specs.Lists.{each}
-use Rattle.model.specs.Blocks.{F, N, root, words, width, widths}
-use Rattle.model.specs.Passive.{Vars, vars, next, passive, passiveBy}
-use Rattle.model.specs.Emit.{Emitted, formLimit, emit, past, passiveForm}
-use Rattle.model.specs.Answers.{done, refused, after, told, refusalOf, passified}
+use Rattle.model.specs.Blocks.{F, root, words, width, widths}
+use Rattle.model.specs.Passive.{Vars, vars, next, passiveBy}
+use Rattle.model.specs.Emit.{Emitted, formLimit, past, passiveForm}
+use Rattle.model.specs.Answers.{done, refused, after}
 use Rattle.model.specs.Refusals.{Row, judge, room, checkRows}
-use Rattle.model.specs.Calls.{over, written, check, largeRow, passifyRows, passify, Passifies, Checks}
+use Rattle.model.specs.Calls.{over, check, largeRow, passify, Passifies, Checks}
 use Rattle.model.specs.Demands.{Accepted}
 use Rattle.model.specs.declared.Checked.{Checked}
 use Rattle.model.specs.declared.Passified.{Passified}
@@ -25,16 +25,15 @@ use Rattle.model.specs.declared.Refusal.{Refusal}
 use Rattle.model.proofs.Lists.{length-each}
 use Rattle.model.proofs.NodeList.{length-words}
 use Rattle.model.proofs.First.{once-stop, once-on, judge-append}
-use Rattle.model.proofs.Passing.{Refuses, passed-on, tells-on, check-accepts, check-refuses}
+use Rattle.model.proofs.Passing.{passed-on, tells-on, check-accepts, check-refuses}
 use Rattle.model.proofs.Accepted.{accepted-good}
-use Rattle.pieces.proofs.Pieces.{alone, fits-so, large-so}
+use Rattle.pieces.proofs.Pieces.{alone}
 use Rattle.actions.specs.Scopes.{programScope}
 use Rattle.variables.specs.declared.Vars.{Vars as Held}
 use Rattle.variables.specs.declared.Made.{Made}
 use Rattle.variables.specs.Variables.{Holds, few}
 use Rattle.passive.specs.Writes.{Writes, formOf, Emittable}
 use Rattle.passive.specs.Formed.{Counts, Leaves}
-use Rattle.passive.proofs.Steps.{statementDepth}
 
 -- ---- the variables before the form
 

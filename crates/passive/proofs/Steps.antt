@@ -1,19 +1,19 @@
 -- What is emitted at each kind of statement, and along a table's chain. Assumes nothing.
-use Prim.Native.Nat.{ℕ, _+_, _-_, _*_, _<_, _≤_}
+use Prim.Native.Nat.{ℕ, _+_, _*_, _<_, _≤_}
 use native.Mathlib.Omega.{arith}
 use mathlib.Core.Path.{_≡_, refl, sym, ap, _∙_}
 use mathlib.Core.Bool.{Bool, true, false}
-use mathlib.Core.List.{List, [], _∷_}
+use mathlib.Core.List.{List, _∷_}
 use borrow.Author.Tests.{ltb-true, ltb-false}
 use denote.Enum.Declared.{tagOf}
 use types.Run.{OneOf}
 use lib.Dec.{ltb}
 use lib.ListN.{length}
 use Rattle.model.specs.Lists.{if_then_else_}
-use Rattle.model.specs.Blocks.{F, N, T, R, Call, widths, node, pipelineNode, tableOf}
+use Rattle.model.specs.Blocks.{F, N, T, R, widths, pipelineNode}
 use Rattle.model.specs.Nodes.{kinds, kindIn}
 use Rattle.model.specs.Trees.{Tree, Stmt, asValue, asTest, asStatement, tree, treeBy}
-use Rattle.model.specs.Tables.{callOf, tried}
+use Rattle.model.specs.Tables.{callOf}
 use Rattle.model.specs.Good.{Good}
 use Rattle.model.specs.Passive as passive
 use Rattle.model.specs.Passive.{Passive, Origin, Vars, Form, form, newWhereDiffers, noApply, bodyForm, chainForm, renamedTest}
@@ -27,7 +27,6 @@ use Rattle.model.proofs.Accepted.{accepted-good}
 use Rattle.model.proofs.Kind as kinds-type
 use Rattle.values.proofs.Trees.{node-before, tree-at}
 use Rattle.values.proofs.Tags.{skips, skips-on}
-use Rattle.pieces.specs.Pieces.{Behind}
 use Rattle.pieces.specs.Sound.{IsValue, IsTest, Reads, Sound}
 use Rattle.pieces.proofs.Accepted.{sound}
 use Rattle.tables.specs.Next.{nextAfter, restOf}
@@ -35,12 +34,11 @@ use Rattle.tables.proofs.Rest.{next-first, next-there, next-rest, rest-few}
 use Rattle.actions.specs.declared.Action.{Action}
 use Rattle.actions.specs.declared.Scope.{Scope}
 use Rattle.actions.specs.Scopes.{Calls, tablesIn, statementOf}
-use Rattle.actions.proofs.Actions.{whole, few-fields, called-is, body-below, body-good}
+use Rattle.actions.proofs.Actions.{few-fields, called-is, body-below, body-good}
 use Rattle.variables.specs.declared.Vars.{Vars as Held}
 use Rattle.variables.specs.declared.Made.{Made}
-use Rattle.variables.specs.Variables.{vars, few}
-use Rattle.passive.specs.Writes.{Writes, madeOf, Tests, JoinedBehind, onApply, formOf, Emittable, OfTable, sequenceForm, choiceForm, guardForm, ruleForm, restForm}
-use Rattle.passive.proofs.Writes.{sequence-writes, choice-writes}
+use Rattle.variables.specs.Variables.{few}
+use Rattle.passive.specs.Writes.{Writes, Tests, formOf, Emittable, OfTable, sequenceForm, choiceForm, ruleForm, restForm}
 
 -- ---- the measure: a statement of the program is above every chain, and a chain above every statement of a body
 

@@ -1,4 +1,5 @@
-// Passify.
+// Passify: the passive form of a pipeline that Check accepts, statement by statement. The same calls count on areas without room, and write. Node
+// numbers go on from one piece to the next; above the limit nothing more is emitted, and the number says so.
 use actions::Scope;
 use actions::action_of;
 use actions::program;
@@ -22,28 +23,25 @@ use variables::Vars;
 use variables::fresh;
 use variables::join;
 ghost use mathlib.Core.Path.{_≡_};
-ghost use mathlib.Core.List.{List, []};
+ghost use mathlib.Core.List.{List};
 ghost use Prim.Native.Nat.{ℕ, _+_, _*_, _≤_, _<_};
-ghost use lib.ListN.{length, take, getD};
-ghost use Rattle.model.specs.Blocks.{F, N, T, R, widths as fieldWidths};
-ghost use Rattle.model.specs.Passive as passive;
-ghost use Rattle.model.specs.Passive.{newWhereDiffers};
-ghost use Rattle.model.specs.Emit.{formLimit};
-ghost use Rattle.blocks.specs.Whole.{Whole};
-ghost use Rattle.model.specs.Trees.{Stmt, asValue, asTest, tree};
-ghost use Rattle.model.specs.Passive.{Passive, form, noApply};
-ghost use Rattle.pieces.specs.Pieces.{Behind, emitTree};
-ghost use Rattle.pieces.specs.Sound.{Sound, IsValue, IsTest, Expression};
-ghost use Rattle.variables.specs.Variables.{Holds, vars, few};
-ghost use Rattle.model.specs.Passive.{Origin, chainForm};
+ghost use lib.ListN.{take};
 ghost use Rattle.model.specs.Lists.{each};
-ghost use Rattle.model.specs.Emit.{passiveForm};
+ghost use Rattle.model.specs.Blocks.{F, N, T, R, widths as fieldWidths};
+ghost use Rattle.model.specs.Trees.{Stmt, asValue, asTest, tree};
+ghost use Rattle.model.specs.Passive as passive;
+ghost use Rattle.model.specs.Passive.{Passive, Origin, form, newWhereDiffers, noApply, chainForm};
+ghost use Rattle.model.specs.Emit.{formLimit, passiveForm};
 ghost use Rattle.model.specs.Calls.{Passifies};
 ghost use Rattle.model.specs.Demands.{Accepted};
 ghost use Rattle.model.specs.declared.Hit.{Hit};
-ghost use Rattle.tables.specs.Next.{nextAfter, restOf};
-ghost use Rattle.passive.specs.Formed.{Counts, Leaves};
+ghost use Rattle.blocks.specs.Whole.{Whole};
+ghost use Rattle.tables.specs.Next.{restOf};
+ghost use Rattle.pieces.specs.Pieces.{Behind, emitTree};
+ghost use Rattle.pieces.specs.Sound.{Sound, IsValue, IsTest, Expression};
+ghost use Rattle.variables.specs.Variables.{vars, few};
 ghost use Rattle.passive.specs.Writes.{Writes, madeOf, Tests, JoinedBehind, formOf, Emittable, OfTable, sequenceForm, choiceForm, guardForm, ruleForm, restForm};
+ghost use Rattle.passive.specs.Formed.{Counts, Leaves};
 
 fn made(at: u32, v: Vars) -> Made
     ensures { λ m. ⌜ m ≡ madeOf at v ⌝ }
@@ -226,16 +224,10 @@ fn statement_at(
         Kind::Assert => tested_at(p, &scope.given, 36, read.a, at, nodes, v),
         Kind::Sequence => sequence_at(p, r, scope, a, b, at, nodes, widths, v),
         Kind::Choice => choice_at(p, r, scope, a, b, at, nodes, widths, v),
-        Kind::Apply => chain_at(
-            p,
-            r,
-            a,
-            next(r, a, blocks::rule_count(r)),
-            at,
-            nodes,
-            widths,
-            v,
-        ),
+        Kind::Apply => {
+            let hit = next(r, a, blocks::rule_count(r));
+            chain_at(p, r, a, hit, at, nodes, widths, v)
+        }
         _ => skip_at(at, nodes, v),
     }
 }

@@ -5,7 +5,7 @@ use mathlib.Core.Path.{_≡_, refl, sym, ap, _∙_}
 use mathlib.Core.List.{List, [], _∷_, _++_, append-assoc}
 use borrow.Author.Tests.{ne-eqb}
 use lib.Dec.{eqb}
-use lib.ListN.{getD, length, length-append}
+use lib.ListN.{getD, length}
 use mathlib.Core.Logic.{⊎-elim}
 use types.Run.{OneOf}
 use denote.Enum.Declared.{tagOf}
@@ -28,7 +28,7 @@ use Rattle.model.proofs.Children.{BeforeIn, BeforeAll}
 use Rattle.model.proofs.KindNumbers.{kind-number}
 use Rattle.model.proofs.NodeList.{gives-value, gives-test}
 use Rattle.values.proofs.Trees.{node-before, tree-at}
-use Rattle.pieces.specs.Pieces.{Emitted, Behind, Start, emitTree, childNodes, wordOf, shown, placed}
+use Rattle.pieces.specs.Pieces.{Emitted, Behind, Start, emitTree, childNodes, shown, placed}
 use Rattle.pieces.specs.Sound.{IsValue, IsTest, Expression, Reads, ChildThere, Sound}
 use Rattle.pieces.proofs.Pieces.{lent, back, fits-so, numbered, past-append, lent-behind, none-behind, alone, above-none}
 

@@ -1,6 +1,5 @@
 -- `passive::packet_variables` meets its contract. Assumes nothing.
 use Prim.Native.Nat.{_-_}
-use mathlib.Core.Path.{refl}
 use native.Mathlib.Omega.{arith}
 use borrow.Author.Needs.{needs}
 use Rattle.passive.proofs.Formed.{Numbered, none-numbered, more-numbered}
