@@ -15,38 +15,30 @@ use Rattle.model.proofs.Accepted.{rows, table-fits, rule-fits, accepted-good}
 use Rattle.blocks.specs.Whole.{Whole}
 use Rattle.pieces.specs.Pieces.{Behind}
 use Rattle.pieces.proofs.Pieces.{one-behind, two-behind}
-use Rattle.guards.specs.Guards.{masked, Over, OverConstant, guardTest, KeyBehind}
+use Rattle.guards.specs.Guards.{masked, OverConstant, guardTest, KeyBehind}
 
 -- what Check accepts has the keys
 module _ (p r : List ℕ) (accepted : Accepted p r) where
   pub whole : Whole p
   whole = accepted-good p r accepted .counts .pipelineWords
 
-  module _ {i : ℕ} (h : i < R r) where
-    table-is : tableOf r i < T p
-    table-is = rule-fits p r (rows p r accepted) i h .0
+  module _ {i t : ℕ} (h : i < R r) (e : t ≡ tableOf r i) where
+    pub table-there : t < T p
+    table-there = rw e (rule-fits p r (rows p r accepted) i h .0)
 
-    pub table-there : {t : ℕ} → t ≡ tableOf r i → t < T p
-    table-there e = rw e table-is
-
-    module _ {j : ℕ} (k : j < keyCount p (tableOf r i)) where
+    module _ {j : ℕ} (k : j < keyCount p t) where
       pub pair-asks : (i < R r) × (j < 4)
-      pair-asks = let l = table-fits p r (rows p r accepted) (tableOf r i) table-is .0 in (h, omega arith)
+      pair-asks = let l = table-fits p r (rows p r accepted) t table-there .0 in (h, omega arith)
 
-      pub key-asks : {t : ℕ} → t ≡ tableOf r i → Whole p × ((t < T p) × (j < 4))
-      key-asks e = (whole, (table-there e, pair-asks .1))
+      pub key-asks : Whole p × ((t < T p) × (j < 4))
+      key-asks = (whole, (table-there, pair-asks .1))
 
-      pub key-is : {t field : ℕ} → t ≡ tableOf r i → field ≡ key p t j → (field ≡ key p (tableOf r i) j) × (field < F p)
-      key-is e d =
-          let same = d ∙ ap (λ u. key p u j) e in
-          (same, rw same (table-fits p r (rows p r accepted) (tableOf r i) table-is .1 j k))
+      pub width-asks : {field wide : ℕ} → field ≡ key p t j → wide ≡ field → Whole p × (wide < F p)
+      width-asks d q = (whole, rw (q, d) (table-fits p r (rows p r accepted) t table-there .1 j k))
 
 -- one node
 abbrev Own : ℕ → List ℕ → List ℕ → ℕ → ℕ → ℕ → ℕ → ℕ → Type 0
 Own at before after to kind a b c = Behind (λ _. node kind a b c ∷ []) 0 at before after to
-
-pub over : {kind at to : ℕ} {n₀ n₁ : List ℕ} → Own at n₀ n₁ to kind (at - 1) 0 0 → 1 ≤ to → Over kind at n₀ n₁ to
-over {kind = kind} o some = record { some = some; extends = λ same b. one-behind (λ x. node kind x 0 0) b same o }
 
 pub over-constant : {kind number width at mid to : ℕ} {n₀ n₁ n₂ : List ℕ} → Own at n₀ n₁ mid 1 number width 0 → length n₁ ≡ length n₀
     → Own mid n₁ n₂ to kind (at - 1) (mid - 1) 0 → 1 ≤ to → OverConstant kind number width at n₀ n₂ to
@@ -59,15 +51,15 @@ unfolding emitTest
 masks o s₁ q s₂ z = (z .extends (s₂ ∙ s₁) (q .extends s₁ o), z .some)
 
 module _ (p r current : List ℕ) (i j : ℕ) where
-  pub key-nodes : {at own to field wide x w m v : ℕ} {n₀ n₁ n₂ : List ℕ} → field ≡ key p (tableOf r i) j → wide ≡ field → w ≡ width p wide
+  pub key-nodes : {at own to t field wide x w m v : ℕ} {n₀ n₁ n₂ : List ℕ} → t ≡ tableOf r i → field ≡ key p t j → wide ≡ field → w ≡ width p wide
       → m ≡ mask r i j → v ≡ value r i j → x ≡ getD current field 0 → Behind (emitTest (masked x w m v)) 0 at n₀ n₁ own → length n₁ ≡ length n₀
       → Own own n₁ n₂ to 20 (at - 1) (own - 1) 0 → 1 ≤ to → KeyBehind p r current i j at n₀ n₂ to
   unfolding keyTests emitTest renamedTest
-  key-nodes {at = at} {own = own} {n₀ = n₀} {n₁ = n₁} ef ew ey em ev ex b s o some =
+  key-nodes {at = at} {own = own} {n₀ = n₀} {n₁ = n₁} et ef ew ey em ev ex b s o some =
       record {
         some = some;
         extends = λ same so-far.
-            let test : Behind (emitTest (renamedTest current (keyTest p r i j))) 0 at n₀ n₁ own = rw (← em, ← ev, ← ef) (rw (ex, ey, ew) at b) in
+            let test : Behind (emitTest (renamedTest current (keyTest p r i j))) 0 at n₀ n₁ own = rw (← et, ← em, ← ev, ← ef) (rw (ex, ey, ew) at b) in
             rw (add-one j) (two-behind (λ x y. node 20 x y 0) so-far same test s o);
       }
 
@@ -77,17 +69,15 @@ module _ (p r current : List ℕ) (i j : ℕ) where
 
   -- the guards
   module _ {at m : ℕ} {n₀ n₁ : List ℕ} (b : Behind (emitTest (renamedTest current (matching p r i))) 0 at n₀ n₁ m) (s₁ : length n₁ ≡ length n₀) where
-    abbrev Guarded : Bool → List ℕ → ℕ → Type 0
-    Guarded negated after to = Behind (emit (Passive.assume (renamedTest current (guardTest p r i negated)))) 0 at n₀ after to × (1 ≤ to)
-
-    pub assumed : {negated : Bool} {to : ℕ} {n₂ : List ℕ} → negated ≡ false → Over 35 m n₁ n₂ to → Guarded negated n₂ to
+    pub assumed : {negated : Bool} {to : ℕ} {n₂ : List ℕ} → negated ≡ false → Own m n₁ n₂ to 35 (m - 1) 0 0
+        → Behind (emit (Passive.assume (renamedTest current (guardTest p r i negated)))) 0 at n₀ n₂ to
     unfolding emit
-    assumed e o = rw e (o .extends s₁ b, o .some)
+    assumed e o = rw e (one-behind (λ u. node 35 u 0 0) b s₁ o)
 
-    pub assumed-not : {negated : Bool} {x to : ℕ} {n₂ n₃ : List ℕ} → negated ≡ true → Over 19 m n₁ n₂ x → length n₂ ≡ length n₁
-        → Over 35 x n₂ n₃ to → Guarded negated n₃ to
+    pub assumed-not : {negated : Bool} {x to : ℕ} {n₂ n₃ : List ℕ} → negated ≡ true → Own m n₁ n₂ x 19 (m - 1) 0 0 → length n₂ ≡ length n₁
+        → Own x n₂ n₃ to 35 (x - 1) 0 0 → Behind (emit (Passive.assume (renamedTest current (guardTest p r i negated)))) 0 at n₀ n₃ to
     unfolding emit emitTest renamedTest
-    assumed-not e o s₂ q = rw e (q .extends (s₂ ∙ s₁) (o .extends s₁ b), q .some)
+    assumed-not e o s₂ q = rw e (one-behind (λ u. node 35 u 0 0) (one-behind (λ u. node 19 u 0 0) b s₁ o) (s₂ ∙ s₁) q)
 
 -- Of `count` keys those below j are written: `nodes₀` and `to₀` are the area and the number before the first of them.
 pub record Matched (p r current : List ℕ) (i at count : ℕ) (nodes₀ : List ℕ) (to₀ : ℕ) (nodes : List ℕ) (to j : ℕ) : Type 0 where
@@ -117,6 +107,3 @@ module _ (p r current : List ℕ) (i at count : ℕ) (nodes₀ : List ℕ) (to�
   ends {j = j} m h e d q f b same =
       let all : j ≡ keyCount p (tableOf r i) = omega (arith, m .within) ∙ q ∙ d ∙ ap (keyCount p) e in
       (rw all at (m .written same (no-keys p r current i 0 (rw f at b))), m .some)
-
-pub key-below : (p r : List ℕ) (i : ℕ) {j t key count : ℕ} → j < count → count ≡ key → key ≡ keyCount p t → t ≡ tableOf r i → j < keyCount p (tableOf r i)
-key-below p r i h q d e = rw (← e) (omega (arith, q, d))

@@ -8,7 +8,7 @@ use Rattle.bits.specs.declared.Op.{Op}
 use Rattle.model.specs.Blocks.{node}
 use Rattle.model.specs.Trees.{Val, Test}
 use Rattle.model.specs.Passive.{renamedTest, keyTests, matching}
-use Rattle.model.specs.Emit.{Piece, leaf, one, two, emitTest}
+use Rattle.model.specs.Emit.{Piece, leaf, two, emitTest}
 use Rattle.model.specs.declared.Comparison.{Comparison}
 use Rattle.pieces.specs.Pieces.{Behind}
 
@@ -21,12 +21,6 @@ guardTest p r i true = Test.notTest (matching p r i)
 abbrev pub masked : ℕ → ℕ → ℕ → ℕ → Test
 masked variable width mask value =
     Test.compare Comparison.Equal (Val.binary Op.And (Val.field variable) (Val.constant mask width)) (Val.constant value width)
-
--- behind any piece a node of the kind makes the piece of a node over it
-pub record Over (kind at : ℕ) (nodes nodes′ : List ℕ) (to : ℕ) : Type 0 where
-  pub some : 1 ≤ to
-  pub extends : {piece : Piece} {from : ℕ} {before : List ℕ} → length nodes ≡ length before → Behind piece 0 from before nodes at
-      → Behind (one piece (λ x. node kind x 0 0)) 0 from before nodes′ to
 
 -- behind any piece a constant and a node of the kind make the piece of a node over both
 pub record OverConstant (kind number width at : ℕ) (nodes nodes′ : List ℕ) (to : ℕ) : Type 0 where

@@ -4,33 +4,14 @@ use pieces::node;
 use pieces::node_behind;
 ghost use mathlib.Core.Path.{_≡_};
 ghost use Prim.Native.Nat.{_≤_, _<_};
-ghost use Rattle.model.specs.Blocks.{F, R, keyCount, key, tableOf};
+ghost use Rattle.model.specs.Blocks.{R, keyCount, tableOf};
 ghost use Rattle.model.specs.Passive.{Passive, renamedTest, matching};
 ghost use Rattle.model.specs.Emit.{emitTest, emit};
 ghost use Rattle.model.specs.Demands.{Accepted};
 ghost use Rattle.pieces.specs.Pieces.{Behind};
-ghost use Rattle.guards.specs.Guards.{masked, Over, OverConstant, KeyBehind, guardTest};
+ghost use Rattle.guards.specs.Guards.{masked, OverConstant, KeyBehind, guardTest};
 
-// The field of key j of rule i.
-fn key_field(p: &[u32], r: &[u32], i: usize, j: usize) -> u32
-    requires { ⌜ Accepted (now p) (now r) ⌝ }
-    requires { ⌜ i < R (now r) ⌝ }
-    requires { ⌜ j < keyCount (now p) (tableOf (now r) i) ⌝ }
-    ensures { λ f. ⌜ f ≡ key (now (p .entry)) (tableOf (now (r .entry)) i) j ⌝ }
-    ensures { λ f. ⌜ f < F (now (p .entry)) ⌝ }
-{
-    blocks::key(p, blocks::wide(blocks::table_of(r, i)), j)
-}
-
-// Behind a piece, whose last node is the one before `at`: a node of the kind over it.
-fn over(kind: u32, at: u32, nodes: &mut [u32]) -> u32
-    requires { ⌜ 1 ≤ at ⌝ }
-    ensures { λ to. ⌜ Over kind at (now (nodes .entry)) (now (nodes .exit)) to ⌝ }
-{
-    node_behind(0, at, node(kind, at - 1, 0, 0), nodes)
-}
-
-// Behind a piece: a constant, and a node of the kind over both.
+// Behind a piece whose last node is the one before `at`: a constant, and a node of the kind over both.
 fn over_constant(kind: u32, number: u32, width: u32, at: u32, nodes: &mut [u32]) -> u32
     requires { ⌜ 1 ≤ at ⌝ }
     ensures { λ to. ⌜ OverConstant kind number width at (now (nodes .entry)) (now (nodes .exit)) to ⌝ }
@@ -56,11 +37,12 @@ fn masked_behind(
     over_constant(17, value, width, under, nodes)
 }
 
-// Key j of rule i, and 20 over what stood before and this.
+// Key j of rule i, which is a rule of the table: its test, and 20 over what stood before and this.
 fn key_behind(
     p: &[u32],
     r: &[u32],
     current: &[u32],
+    table: usize,
     i: usize,
     j: usize,
     at: u32,
@@ -68,11 +50,12 @@ fn key_behind(
 ) -> u32
     requires { ⌜ Accepted (now p) (now r) ⌝ }
     requires { ⌜ i < R (now r) ⌝ }
-    requires { ⌜ j < keyCount (now p) (tableOf (now r) i) ⌝ }
+    requires { ⌜ table ≡ tableOf (now r) i ⌝ }
+    requires { ⌜ j < keyCount (now p) table ⌝ }
     requires { ⌜ 1 ≤ at ⌝ }
     ensures { λ to. ⌜ KeyBehind (now (p .entry)) (now (r .entry)) (now (current .entry)) i j at (now (nodes .entry)) (now (nodes .exit)) to ⌝ }
 {
-    let field = key_field(p, r, i, j);
+    let field = blocks::key(p, table, j);
     let width = blocks::width(p, blocks::wide(field));
     let mask = blocks::mask(r, i, j);
     let value = blocks::value(r, i, j);
@@ -87,11 +70,12 @@ fn match_behind(p: &[u32], r: &[u32], current: &[u32], i: usize, at: u32, nodes:
     ensures { λ to. ⌜ Behind (emitTest (renamedTest (now (current .entry)) (matching (now (p .entry)) (now (r .entry)) i))) 0 at (now (nodes .entry)) (now (nodes .exit)) to ⌝ }
     ensures { λ to. ⌜ 1 ≤ to ⌝ }
 {
-    let count = blocks::wide(blocks::key_count(p, blocks::wide(blocks::table_of(r, i))));
+    let table = blocks::wide(blocks::table_of(r, i));
+    let count = blocks::wide(blocks::key_count(p, table));
     let mut to = node_behind(0, at, node(16, 1, 0, 0), nodes);
     let mut j = 0;
     while j < count {
-        to = key_behind(p, r, current, i, j, to, nodes);
+        to = key_behind(p, r, current, table, i, j, to, nodes);
         j += 1;
     }
     to
@@ -114,8 +98,8 @@ pub fn guard_behind(
 {
     let m = match_behind(p, r, current, i, at, nodes);
     if negated {
-        let other = over(19, m, nodes);
-        return over(35, other, nodes);
+        let other = node_behind(0, m, node(19, m - 1, 0, 0), nodes);
+        return node_behind(0, other, node(35, other - 1, 0, 0), nodes);
     }
-    over(35, m, nodes)
+    node_behind(0, m, node(35, m - 1, 0, 0), nodes)
 }
