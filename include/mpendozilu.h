@@ -12,7 +12,7 @@
  *
  * Calls keep nothing between them, so several threads may call at once, as long as nobody writes what is lent, or reads an area that may
  * be written, until its call returns. The library is compiled for Linux on x86-64. Run, Confirm and Passify call themselves as deep as the
- * pipeline's tree: a thread that calls needs a stack of 1 MiB.
+ * pipeline's tree, and Passify along a table's rules: the deepest that we found takes just below 1 MiB, and a thread that calls should have 2.
  *
  * The numbers, and the place that each is given with:
  *

@@ -2,8 +2,8 @@
 # Builds the archive for C, links tests/driver.c with it, and runs that on the vectors, on the rows of Load, on Check's limits, on the
 # rows of Run, Confirm and Lookup and on those of Passify. Two cases of its own are that the driver fails wrong answers, and that C++ takes
 # the header.
-# The archive is for x86-64: on another processor the driver is compiled across and run by an emulator. Either way it has the stack that the
-# header asks for, 1 MiB, and no more.
+# The archive is for x86-64: on another processor the driver is compiled across and run by an emulator. Either way it has a stack of 1 MiB
+# and no more, half of what the header asks for.
 # The last line is 'N passed, M failed'.
 set -eu
 cd "$(dirname "$0")/.."
