@@ -11,11 +11,13 @@ use lib.Dec.{eqb, ltb}
 use lib.ListN.{length}
 use borrow.Author.Tests.{lt-ltb, le-ltb, ltb-true, ltb-false}
 use Rattle.model.specs.Lists.{if_then_else_, each, those, times, among}
+use Rattle.model.specs.Blocks.{R}
 use Rattle.model.specs.Tables.{triedBefore, placed, ordered, firstThat}
 use Rattle.model.specs.declared.Hit.{Hit}
 use Rattle.model.proofs.Every.{All, all-each, all-placed, all-ordered, all-those, all-with, among-here, among-there}
 use Rattle.model.proofs.Hits.{first-has}
-use Rattle.tables.specs.Scan.{orderedTo, precedes}
+use Rattle.tables.specs.Next.{comesAfter}
+use Rattle.tables.specs.Scan.{orderedTo, precedes, Settled}
 
 -- Nothing is before itself, of two that differ exactly one is before the other, and what is before the first of them is before the second.
 pub record Order (before : ℕ → ℕ → Bool) : Type 0 where
@@ -23,7 +25,8 @@ pub record Order (before : ℕ → ℕ → Bool) : Type 0 where
   pub one : (i j : ℕ) → (i ≡ j → ⊥) → before j i ≡ not (before i j)
   pub through : (i j k : ℕ) → before i j ≡ true → before j k ≡ true → before i k ≡ true
 
--- the order in which rules are tried: nothing else here knows it
+-- ---- the order in which rules are tried: nothing else here knows it
+
 pub tried-order : (r : List ℕ) → Order (triedBefore r)
 tried-order r = record {
   itself = λ i. le-ltb i i (omega arith);
@@ -34,6 +37,17 @@ tried-order r = record {
     go : (i j : ℕ) → (i ≡ j → ⊥) → (b : Bool) → ltb i j ≡ b → ltb j i ≡ not b
     go i j d true e = le-ltb j i (omega (arith, ltb-true i j e))
     go i j d false e = lt-ltb j i (omega (arith, ltb-false i j e))
+
+module _ (r : List ℕ) (count : ℕ) (e : count ≡ R r) where
+  -- up to a rule none comes after it
+  pub none-after : (after : ℕ) → after < count → (j : ℕ) → j < after + 1 → comesAfter r after j ≡ false
+  none-after after h j k = rw (lt-ltb after (R r) (omega (arith, e))) (le-ltb after j (omega arith))
+
+  -- and none behind it is tried before it
+  pub settles : (best : ℕ) → ltb best count ≡ true → Settled r best
+  settles best h = record { rule = omega (arith, e, ltb-true best count h); first = λ j k l. le-ltb j best (omega arith) }
+
+-- ---- lists in an order
 
 -- those of a list and of what follows it
 those-append : (test : ℕ → Bool) (xs ys : List ℕ) → those test (xs ++ ys) ≡ those test xs ++ those test ys

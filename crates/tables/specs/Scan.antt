@@ -1,11 +1,12 @@
 -- How far a scan over the rules has come. Assumes nothing: these are definitions.
-use Prim.Native.Nat.{ℕ}
-use mathlib.Core.Bool.{Bool, true}
+use Prim.Native.Nat.{ℕ, _<_}
+use mathlib.Core.Path.{_≡_}
+use mathlib.Core.Bool.{Bool, true, false}
 use mathlib.Core.List.{List}
 use Rattle.bits.specs.Width as bits
 use lib.Dec.{ltb}
 use Rattle.model.specs.Lists.{if_then_else_, each, those, word}
-use Rattle.model.specs.Blocks.{key, value, mask}
+use Rattle.model.specs.Blocks.{R, key, value, mask}
 use Rattle.model.specs.Tables.{triedBefore, ofTable, ordered, firstThat}
 use Rattle.model.specs.declared.Hit.{Hit}
 
@@ -25,6 +26,11 @@ firstTo r t test n = firstThat test (orderedTo (triedBefore r) (ofTable r t) n)
 abbrev pub precedes : (ℕ → ℕ → Bool) → ℕ → Hit → Bool
 precedes before i (Hit.Rule j) = before i j
 precedes before i Hit.Default = true
+
+-- a rule that none behind it is tried before
+pub record Settled (r : List ℕ) (best : ℕ) : Type 0 where
+  pub rule : best < R r
+  pub first : (j : ℕ) → best < j → j < R r → triedBefore r j best ≡ false
 
 -- what a number below the count of the rules stands for, and any other
 abbrev pub hitFrom : ℕ → ℕ → Hit

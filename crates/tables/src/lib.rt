@@ -1,12 +1,13 @@
-// Which rule of a table hits a packet. Only `tried_before` knows the order in which rules are tried.
+// Which rule of a table hits a packet. Only `tried_before`, `first_after` and `settled` know the order in which rules are tried.
 use model::Hit;
 ghost use mathlib.Core.Path.{_≡_};
-ghost use Prim.Native.Nat.{_+_, _<_};
+ghost use mathlib.Core.Bool.{true, false};
+ghost use Prim.Native.Nat.{ℕ, _+_, _<_, _≤_};
 ghost use Rattle.model.specs.Blocks.{R, keyCount, tableOf};
 ghost use Rattle.model.specs.Tables.{matches, triedBefore, hit};
 ghost use Rattle.tables.specs.Fitting.{Fitting};
 ghost use Rattle.tables.specs.Next.{comesAfter, nextAfter};
-ghost use Rattle.tables.specs.Scan.{keyMatches, precedes, firstTo, hitFrom};
+ghost use Rattle.tables.specs.Scan.{keyMatches, Settled, precedes, firstTo, hitFrom};
 
 fn table_of(r: &[u32], i: usize) -> usize
     requires { ⌜ i < R (now r) ⌝ }
@@ -56,6 +57,25 @@ pub fn tried_before(r: &[u32], i: usize, j: usize) -> bool
     i < j
 }
 
+// Where a scan for what comes after a rule may begin: no rule below does. An order that says less can answer 0.
+fn first_after(r: &[u32], after: usize) -> usize
+    ensures { λ n. ⌜ ((j : ℕ) → j < n → comesAfter (now (r .entry)) after j ≡ false) ⌝ }
+    ensures { λ n. ⌜ n ≤ R (now (r .entry)) ⌝ }
+{
+    if after < blocks::rule_count(r) {
+        after + 1
+    } else {
+        0
+    }
+}
+
+// Where a scan may end: the best is a rule, and none behind it is tried before it. An order that says less can answer false.
+fn settled(r: &[u32], best: usize) -> bool
+    ensures { λ b. ⌜ (b ≡ true → Settled (now (r .entry)) best) ⌝ }
+{
+    best < blocks::rule_count(r)
+}
+
 // The best so far is a rule's number, or the count of the rules where that is the default: an enum that is carried through the scan would
 // be copied, with what fills it, at each rule. Every rule is tried before the default is taken.
 fn precedes(r: &[u32], i: usize, best: usize) -> bool
@@ -65,8 +85,7 @@ fn precedes(r: &[u32], i: usize, best: usize) -> bool
     blocks::rule_count(r) <= best || tried_before(r, i, best)
 }
 
-// Rule i takes the place of the best below it. The tests stand in the order of their cost, so that in block order nothing is matched after
-// the first hit.
+// Rule i takes the place of the best below it. The tests stand in the order of their cost: no rule is matched that is tried after the best.
 fn better(p: &[u32], r: &[u32], packet: &[u32], t: usize, i: usize, best: usize) -> usize
     requires { ⌜ Fitting (now p) (now r) (now packet) ⌝ }
     requires { ⌜ i < R (now r) ⌝ }
@@ -98,7 +117,7 @@ pub fn hit(p: &[u32], r: &[u32], packet: &[u32], t: usize) -> Hit
     let count = blocks::rule_count(r);
     let mut best = count;
     let mut i = 0;
-    while i < count {
+    while i < count && !settled(r, best) {
         best = better(p, r, packet, t, i, best);
         i += 1;
     }
@@ -132,8 +151,8 @@ pub fn next(r: &[u32], t: usize, after: usize) -> Hit
 {
     let count = blocks::rule_count(r);
     let mut best = count;
-    let mut i = 0;
-    while i < count {
+    let mut i = first_after(r, after);
+    while i < count && !settled(r, best) {
         best = nearer(r, t, after, i, best);
         i += 1;
     }
