@@ -44,8 +44,8 @@ module _ (r : List ℕ) (count : ℕ) (e : count ≡ R r) where
   none-after after h j k = rw (lt-ltb after (R r) (omega (arith, e))) (le-ltb after j (omega arith))
 
   -- and none behind it is tried before it
-  pub settles : (best : ℕ) → ltb best count ≡ true → Settled r best
-  settles best h = record { rule = omega (arith, e, ltb-true best count h); first = λ j k l. le-ltb j best (omega arith) }
+  pub settles : (best : ℕ) → best < count → Settled r best
+  settles best h = record { rule = omega (arith, e); first = λ j k l. le-ltb j best (omega arith) }
 
 -- ---- lists in an order
 
