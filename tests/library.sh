@@ -81,5 +81,6 @@ line=$(tail -n 1 "$work/log")
 passed=${line%% passed*}
 failed=${line##*, }
 failed=$((${failed%% failed} + 2 - own))
+if [ "$status" -ne 0 ] && [ "$failed" -eq 0 ]; then failed=1; fi
 echo "$((passed + own)) passed, $failed failed"
 [ "$status" -eq 0 ] && [ "$failed" -eq 0 ]

@@ -5,7 +5,6 @@ use mathlib.Core.Path.{_≡_}
 use mathlib.Core.Bool.{Bool, true, false}
 use mathlib.Core.List.{List}
 use lib.ListN.{take}
-use Rattle.model.specs.Lists.{if_then_else_}
 use Rattle.model.specs.Blocks.{F, N, R, widths, node, tableOf}
 use Rattle.model.specs.Trees.{Test}
 use Rattle.model.specs.Tables.{callOf}

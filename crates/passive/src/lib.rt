@@ -24,7 +24,7 @@ use variables::fresh;
 use variables::join;
 ghost use mathlib.Core.Path.{_≡_};
 ghost use mathlib.Core.List.{List};
-ghost use Prim.Native.Nat.{ℕ, _+_, _*_, _≤_, _<_};
+ghost use Prim.Native.Nat.{ℕ, _≤_, _<_};
 ghost use lib.ListN.{take};
 ghost use Rattle.model.specs.Lists.{each};
 ghost use Rattle.model.specs.Blocks.{F, N, T, R, widths as fieldWidths};

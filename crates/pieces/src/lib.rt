@@ -1,6 +1,6 @@
 // The pieces of a passive form. Each is written at the start of the area that it is lent, and answers the number of the node behind it: the
-// part of the area behind a piece is lent to the writer of the next one. Where the area is too short nothing of a piece is written, so that
-// on an empty area the same calls only count.
+// part of the area behind a piece is lent to the writer of the next one. A node is written only where there is room for it, so that on an
+// empty area the same calls only count.
 use blocks::word_in;
 use model::Node;
 use model::Role;
@@ -116,14 +116,7 @@ fn placed(roles: Roles, n: Node, a: u32, b: u32, c: u32) -> Node
 }
 
 // The value or the test at node n, over the current variables: the pieces of its children in order, and then its own node.
-pub fn tree_at(
-    p: &[u32],
-    given: &[u32; 2],
-    current: &[u32],
-    n: usize,
-    at: u32,
-    out: &mut [u32],
-) -> u32
+fn tree_at(p: &[u32], given: &[u32; 2], current: &[u32], n: usize, at: u32, out: &mut [u32]) -> u32
     requires { ⌜ Sound (now p) ⌝ }
     requires { ⌜ n < N (now p) ⌝ }
     requires { ⌜ Expression (tree (now p) (now given) n) ⌝ }

@@ -15,7 +15,7 @@ use Rattle.model.specs.declared.Group.{Group}
 use Rattle.model.proofs.Lists.{length-each, length-joined}
 use Rattle.records.specs.declared.Run.{Run}
 use Rattle.records.specs.declared.Runs.{Runs}
-use Rattle.records.specs.Runs.{Reads, wordsAt, records, words, rootIn, recordsIn, pipelineIn, pipelineWords, Whole, Few}
+use Rattle.records.specs.Runs.{Reads, wordsAt, words, rootIn, recordsIn, pipelineIn, pipelineWords, Whole, Few}
 
 pub length-words : (file : List ℕ) (g : Group) (run : Run) → length (words file g run) ≡ size g * run .count
 length-words file g run =

@@ -11,12 +11,19 @@ main-spec = tie.close (tie.spec
     (λ c κs. search needs)  -- file-area-requires
     (λ c. search needs)  -- slice-aggregate-read-full
     (λ c κs. search needs)  -- read-full-requires
+    (λ c κs. search needs)  -- ended-requires
+    (λ c. search needs)  -- slice-aggregate-write-all
+    (λ c κs. search needs)  -- write-all-requires
+    (λ c. search needs)  -- returns
     (λ c κs. search needs)  -- text-area-requires
     (λ c. search needs)  -- array-share-prefix-file
     (λ c. search needs)  -- slice-aggregate-listing
     (λ c. search needs)  -- slice-aggregate-listing-2
     (λ c κs. search needs)  -- listing-requires
     (λ c. search needs)  -- array-share-prefix-text
-    (λ c. let h = c .before .before .listing in sym (length-take-le _ _ (omega (arith, h .ensures .room, h .kept .1 .0))))  -- slice-aggregate-write-all
-    (λ c κs. search needs)  -- write-all-requires
-    (λ c. search needs))  -- returns
+    (λ c. let h = c .before .before .listing in sym (length-take-le _ _ (omega (arith, h .ensures .room, h .kept .1 .0))))  -- slice-aggregate-write-all-2
+    (λ c κs. search needs)  -- write-all-requires-2
+    (λ c. search needs)  -- slice-aggregate-write-all-3
+    (λ c κs. search needs)  -- write-all-requires-3
+    (λ c. search needs)  -- returns-2
+    (λ c. search needs))  -- returns-3

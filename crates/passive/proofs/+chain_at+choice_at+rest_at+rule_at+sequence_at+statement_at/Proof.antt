@@ -1,3 +1,5 @@
+-- The cycle of calls of the statements: the measure falls at each child, at each rule of a chain, and from the program to a chain and to a body.
+-- Assumes nothing.
 use Prim.Native.Nat.{ℕ, _<_}
 use Rattle.passive.proofs.Writes.{beyond-writes, sequence-writes, choice-writes}
 use Rattle.passive.proofs.Steps.{chainDepth, pairDepth, restDepth, ruleDepth, statementDepth, left-asks, right-asks, body-asks, body-is, same-rule, no-rule, next-of-table, chain-below, chain-is, of-rule, rule-asks, rest-asks, default-is, Here, limit-holds, well, narrow, assign-asks, havoc-asks, assume-asks, assert-asks, sequence-asks, choice-asks, apply-asks, assign-is, havoc-is, sequence-is, choice-is, apply-is, assume-gives, assert-gives, rest-gives}

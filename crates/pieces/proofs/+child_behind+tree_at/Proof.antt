@@ -1,3 +1,4 @@
+-- The cycle of calls {child_behind, tree_at}: the measure is the node's number, which falls at each child. Assumes nothing.
 use Prim.Native.Nat.{ℕ, _+_, _*_, _<_}
 use Rattle.pieces.proofs.Pieces.{beyond}
 use Rattle.pieces.proofs.Expressions.{childDepth, Here, first-asks, second-asks, third-asks, child-asks, child-gives, no-child-gives, tree-emitted}
