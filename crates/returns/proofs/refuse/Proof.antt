@@ -1,8 +1,8 @@
--- `capi::refuse` meets its contract. Assumes nothing.
+-- `returns::refuse` meets its contract. Assumes nothing.
 use borrow.Author.Needs.{needs}
-use Rattle.capi.proofs.refuse.Statement.{statement}
-use Rattle.capi.proofs.refuse.Tie as tie
-use Rattle.capi.proofs.Returns.{refusal}
+use Rattle.returns.proofs.refuse.Statement.{statement}
+use Rattle.returns.proofs.refuse.Tie as tie
+use Rattle.returns.proofs.Returns.{refusal}
 
 pub refuse-spec : {M : Type 1} → statement M
 refuse-spec =

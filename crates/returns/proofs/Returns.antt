@@ -1,10 +1,10 @@
 -- What a call for C returns is decided by its answer. Assumes nothing.
 use Prim.Native.Nat.{ℕ}
-use mathlib.Core.Path.{_≡_, sym, _∙_, ap, subst}
+use mathlib.Core.Path.{_≡_}
 use mathlib.Core.List.{List, [], _∷_}
 use Rattle.model.specs.Lists.{word}
 use Rattle.model.specs.Answers.{Answer, done, numberIn, valuesIn}
-use Rattle.capi.specs.Returns.{Returns}
+use Rattle.returns.specs.Returns.{Returns}
 
 -- two returns that meet the statement for one answer are equal
 pub one-return : {answer : Answer (List ℕ)} {r first second third r′ first′ second′ third′ : ℕ}
@@ -20,9 +20,3 @@ success values h = record { number = h .number; firstValue = h .firstValue; seco
 -- a refusal by its number and its place
 pub refusal : {answer : Answer (List ℕ)} {number place : ℕ} → number ≡ numberIn answer → valuesIn answer ≡ place ∷ [] → Returns answer number place 0 0
 refusal e h = record { number = e; firstValue = rw h; secondValue = rw h; thirdValue = rw h }
-
--- what is returned for one case of an enum is returned for the answer that the enum tells
-pub told-by : {Enum : Type 0} (said : Enum → Answer (List ℕ)) {answer : Answer (List ℕ)} {told case : Enum} {r first second third : ℕ}
-    → said told ≡ answer → told ≡ case → Returns (said case) r first second third → Returns answer r first second third
-told-by said {r = r} {first = first} {second = second} {third = third} e is h =
-    subst (λ answer. Returns answer r first second third) (sym (ap said is) ∙ e) h
