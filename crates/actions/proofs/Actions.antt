@@ -5,7 +5,7 @@ use mathlib.Core.Path.{_≡_, refl}
 use mathlib.Core.List.{List}
 use lib.ListN.{length}
 use Rattle.model.specs.Lists.{word}
-use Rattle.model.specs.Blocks.{F, A, N, T, R, widths, callAt, callPlace, defaultPlace}
+use Rattle.model.specs.Blocks.{F, A, N, T, R, root, widths, callAt, callPlace, defaultPlace}
 use Rattle.model.specs.Trees.{called}
 use Rattle.model.specs.Tables.{callOf}
 use Rattle.model.specs.Good.{Good}
@@ -14,7 +14,7 @@ use Rattle.model.specs.declared.Hit.{Hit}
 use Rattle.model.proofs.Accepted.{rows, call-fits, table-fits, rule-fits, accepted-good}
 use Rattle.blocks.specs.Whole.{Whole}
 use Rattle.actions.specs.declared.Action.{Action}
-use Rattle.actions.specs.Scopes.{Calls, statementOf}
+use Rattle.actions.specs.Scopes.{IsStatement, Calls, programScope, statementOf}
 
 module _ (p r : List ℕ) (accepted : Accepted p r) where
   pub whole : Whole p
@@ -22,6 +22,11 @@ module _ (p r : List ℕ) (accepted : Accepted p r) where
 
   pub few-fields : F p ≤ 32
   few-fields = accepted-good p r accepted .counts .mostFields
+
+  pub root-statement : IsStatement p r programScope (root p)
+  root-statement =
+      let good = accepted-good p r accepted in
+      record { accepted = accepted; below = good .rootBelow; good = good .programGood }
 
   rule-there : (i : ℕ) → i < R r → word r (callPlace r i) < A p
   rule-there i k = call-fits p (callAt r (callPlace r i)) (rule-fits p r (rows p r accepted) i k .2) .0

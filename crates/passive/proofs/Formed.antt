@@ -32,7 +32,7 @@ use Rattle.actions.specs.Scopes.{programScope}
 use Rattle.variables.specs.declared.Vars.{Vars as Held}
 use Rattle.variables.specs.declared.Made.{Made}
 use Rattle.variables.specs.Variables.{Holds, few}
-use Rattle.passive.specs.Writes.{Writes, formOf, Emittable}
+use Rattle.forms.specs.Writes.{Writes, formOf}
 use Rattle.passive.specs.Formed.{Counts, Leaves}
 
 -- ---- the variables before the form
@@ -67,11 +67,6 @@ few-first h e = omega (arith, e)
 -- ---- the whole form
 
 module _ (p r : List ℕ) (accepted : Accepted p r) where
-  pub root-emittable : Emittable p r programScope (root p)
-  root-emittable =
-      let good = accepted-good p r accepted in
-      record { accepted = accepted; below = good .rootBelow; good = good .programGood }
-
   -- the fields' widths are the first that stand in the area
   packet-holds : {v : Held} (lent area : List ℕ) → take (F p) (v .current) ≡ each (λ i. i) (F p) → v .next ≡ F p
       → (length (widths p) ≤ length lent → area ≡ over (widths p) lent) → length area ≡ length lent

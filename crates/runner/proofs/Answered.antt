@@ -33,12 +33,12 @@ use Rattle.actions.proofs.Actions.{few-fields, rule-room, default-room}
 use Rattle.values.proofs.Ready.{ready}
 use Rattle.tables.specs.Fitting.{Fitting}
 use Rattle.tables.proofs.Fitting.{fitting}
-use Rattle.runner.specs.declared.State.{State as Held}
-use Rattle.runner.specs.declared.Ending.{Ending}
-use Rattle.runner.specs.declared.End.{End}
-use Rattle.runner.specs.States.{packetIn, stateIn, outcomeBy, Stands, EndsAs}
+use Rattle.states.specs.declared.State.{State as Held}
+use Rattle.states.specs.declared.Ending.{Ending}
+use Rattle.states.specs.declared.End.{End}
+use Rattle.states.specs.States.{packetIn, stateIn, outcomeBy, Stands, EndsAs}
 use Rattle.runner.specs.Parts.{Inside}
-use Rattle.runner.proofs.Actions.{hit-there}
+use Rattle.states.proofs.Actions.{hit-there}
 
 -- ---- the end area
 

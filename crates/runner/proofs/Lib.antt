@@ -1,8 +1,4 @@
--- Laws of a run. A file cites files above it.
-mod Leaves
-mod Actions
-mod Steps
+-- Laws of the calls. A file cites files above it.
 mod Started
-mod Whole
 mod Answered
 pub mod Unique

@@ -1,227 +1,32 @@
-// Lookup, Run and Confirm: a pipeline, accepted with its rules, on one packet. A run calls itself on child nodes and carries its state by
-// value, so that nothing is written before it has ended.
-use actions::Action;
-use actions::Scope;
-use actions::action_of;
-use actions::program;
+// Lookup, Run and Confirm: a pipeline, accepted with its rules, on one packet.
 use areas::first;
 use model::Checked;
 use model::Confirmed;
 use model::Hit;
-use model::Kind;
 use model::Part;
 use model::Ran;
 use model::Refusal;
+use runs::run_whole;
+use states::End;
+use states::Ending;
+use states::State;
 ghost use mathlib.Core.Path.{_≡_};
 ghost use mathlib.Core.List.{List, []};
 ghost use lib.Dec.{ltb};
-ghost use Prim.Native.Nat.{ℕ, _+_, _≤_, _<_, _^_};
-ghost use lib.ListN.{length, set};
+ghost use Prim.Native.Nat.{ℕ, _+_, _≤_, _<_};
+ghost use lib.ListN.{length};
 ghost use Rattle.model.specs.Lists.{if_then_else_, word, part};
-ghost use Rattle.model.specs.Blocks.{F, N, T, widths};
-ghost use Rattle.model.specs.Trees.{Stmt, asValue, asTest, tree, truthOf, bitsIn};
-ghost use Rattle.model.specs.Tables.{hit, partOf, callOf};
-ghost use Rattle.model.specs.Good.{Within, GoodTest, Good};
-ghost use Rattle.model.specs.Runs.{run, packetWidths, startPacket, start, pipelineRun, noApply};
+ghost use Rattle.model.specs.Blocks.{F, T, widths};
+ghost use Rattle.model.specs.Tables.{hit, partOf};
+ghost use Rattle.model.specs.Good.{Within};
+ghost use Rattle.model.specs.Runs.{run, packetWidths, startPacket};
 ghost use Rattle.model.specs.Answers.{done, after, told, yesOrNo, checked, confirmed};
 ghost use Rattle.model.specs.Refusals.{judge, packetRows};
 ghost use Rattle.model.specs.Calls.{over, startRows, lookup, wordsInto, LooksUp, ended, Tells, Runs, failsWhole, Confirms};
 ghost use Rattle.model.specs.Demands.{Accepted};
 ghost use Rattle.blocks.specs.Whole.{Whole};
-ghost use Rattle.actions.specs.Scopes.{Calls};
-ghost use Rattle.runner.specs.States.{packetIn, stateIn, outcomeBy, Stands, EndsAs, sideAt, held, endOf, Runnable, runOf};
+ghost use Rattle.states.specs.States.{packetIn, stateIn, outcomeBy, Stands};
 ghost use Rattle.runner.specs.Parts.{Inside};
-
-// Where a run stands: the packet in the first F words, and how many entries were used.
-pub struct State {
-    pub packet: [u32; 32],
-    pub used: usize,
-}
-
-// How a run ends: blocked and failed at a node; the list too short, or its next entry wrong.
-pub enum Ending {
-    Passed,
-    Blocked(usize),
-    Failed(usize),
-    Short,
-    Wrong,
-}
-
-pub struct End {
-    pub state: State,
-    pub how: Ending,
-}
-
-fn end_of(s: State, how: Ending) -> End
-    ensures { λ e. ⌜ e ≡ endOf s how ⌝ }
-{
-    End { state: s, how: how }
-}
-
-// The state with field f set to x.
-fn stored(s: State, f: usize, x: u32) -> State
-    requires { ⌜ f < 32 ⌝ }
-    ensures { λ z. ⌜ z ≡ held (set (s .packet) f x) (s .used) ⌝ }
-{
-    let mut packet = s.packet;
-    packet[f] = x;
-    State {
-        packet: packet,
-        used: s.used,
-    }
-}
-
-// The state with one more entry used.
-fn taken(s: State) -> State
-    requires { ⌜ s .used + 1 < 2 ^ 64 ⌝ }
-    ensures { λ z. ⌜ z ≡ held (s .packet) (s .used + 1) ⌝ }
-{
-    let packet = s.packet;
-    State {
-        packet: packet,
-        used: s.used + 1,
-    }
-}
-
-// Field f takes the value of node v.
-fn assign(p: &[u32], given: &[u32; 2], s: State, f: usize, v: usize) -> End
-    requires { ⌜ Stands (now p) s ⌝ }
-    requires { ⌜ v < N (now p) ⌝ }
-    requires { ⌜ Good (widths (now p)) 0 (Stmt.assign f (asValue (tree (now p) (now given) v))) ⌝ }
-    ensures { λ e. ⌜ ((choices : List ℕ) → EndsAs (now (p .entry)) choices e
-        (run (widths (now (p .entry))) noApply (Stmt.assign f (asValue (tree (now (p .entry)) (now (given .entry)) v))) (stateIn (now (p .entry)) choices s))) ⌝ }
-{
-    let count = blocks::field_count(p);
-    let x = values::bits_at(p, given, first(&s.packet, count), v);
-    end_of(stored(s, f, x.number), Ending::Passed)
-}
-
-// The run goes on where the test of node t holds, and else ends so.
-fn tested(p: &[u32], given: &[u32; 2], s: State, t: usize, how: Ending) -> End
-    requires { ⌜ Stands (now p) s ⌝ }
-    requires { ⌜ t < N (now p) ⌝ }
-    requires { ⌜ GoodTest (widths (now p)) (asTest (tree (now p) (now given) t)) ⌝ }
-    ensures { λ e. ⌜ ((choices : List ℕ) → EndsAs (now (p .entry)) choices e
-        (outcomeBy (if truthOf (bitsIn (widths (now (p .entry))) (packetIn (now (p .entry)) s)) (asTest (tree (now (p .entry)) (now (given .entry)) t)) then Ending.Passed else how)
-        (stateIn (now (p .entry)) choices s))) ⌝ }
-{
-    let count = blocks::field_count(p);
-    if values::truth_at(p, given, first(&s.packet, count), t) {
-        end_of(s, Ending::Passed)
-    } else {
-        end_of(s, how)
-    }
-}
-
-// Field f takes the next entry, where that fits.
-fn havoc(p: &[u32], choices: &[u32], s: State, f: usize) -> End
-    requires { ⌜ Stands (now p) s ⌝ }
-    requires { ⌜ f < F (now p) ⌝ }
-    ensures { λ e. ⌜ EndsAs (now (p .entry)) (now (choices .entry)) e
-        (run (widths (now (p .entry))) noApply (Stmt.havoc f) (stateIn (now (p .entry)) (now (choices .entry)) s)) ⌝ }
-{
-    let used = s.used;
-    if choices.len() <= used {
-        return end_of(s, Ending::Short);
-    }
-    let entry = choices[used];
-    if bits::fits(blocks::width(p, f), entry) {
-        end_of(taken(stored(s, f, entry)), Ending::Passed)
-    } else {
-        end_of(s, Ending::Wrong)
-    }
-}
-
-// What the next entry says of a choice: the side that runs, or that there is none.
-pub enum Side {
-    Node(usize),
-    Wrong,
-    Short,
-}
-
-fn next_side(choices: &[u32], used: usize, a: usize, b: usize) -> Side
-    ensures { λ r. ⌜ r ≡ sideAt (now (choices .entry)) used a b ⌝ }
-{
-    if choices.len() <= used {
-        return Side::Short;
-    }
-    match choices[used] {
-        0 => Side::Node(a),
-        1 => Side::Node(b),
-        _ => Side::Wrong,
-    }
-}
-
-// The action of the rule of table t that hits, or of its default. The table is looked up once, before anything of it runs.
-fn applied(p: &[u32], r: &[u32], s: State, t: usize) -> Action
-    requires { ⌜ Accepted (now p) (now r) ⌝ }
-    requires { ⌜ Stands (now p) s ⌝ }
-    requires { ⌜ t < T (now p) ⌝ }
-    ensures { λ a. ⌜ Calls (now (p .entry)) a (callOf (now (p .entry)) (now (r .entry)) t (hit (now (p .entry)) (now (r .entry)) (packetIn (now (p .entry)) s) t)) ⌝ }
-{
-    let count = blocks::field_count(p);
-    action_of(p, r, t, tables::hit(p, r, first(&s.packet, count), t))
-}
-
-// The run of the statement at node n.
-fn run_at(p: &[u32], r: &[u32], choices: &[u32], scope: Scope, s: State, n: usize) -> End
-    requires { ⌜ Runnable (now p) (now r) scope s n ⌝ }
-    ensures { λ e. ⌜ EndsAs (now (p .entry)) (now (choices .entry)) e
-        (runOf (now (p .entry)) (now (r .entry)) scope n (stateIn (now (p .entry)) (now (choices .entry)) s)) ⌝ }
-{
-    let node = blocks::node(p, n);
-    let a = node.a as usize;
-    let b = node.b as usize;
-    match nodes::kind_in(node.kind) {
-        Kind::Assign => assign(p, &scope.given, s, a, b),
-        Kind::Havoc => havoc(p, choices, s, a),
-        Kind::Assume => tested(p, &scope.given, s, a, Ending::Blocked(n)),
-        Kind::Assert => tested(p, &scope.given, s, a, Ending::Failed(n)),
-        Kind::Sequence => {
-            let e = run_at(p, r, choices, scope, s, a);
-            let how = e.how;
-            if let Ending::Passed = how {
-                let next = e.state;
-                run_at(p, r, choices, scope, next, b)
-            } else {
-                e
-            }
-        }
-        Kind::Choice => match next_side(choices, s.used, a, b) {
-            Side::Node(j) => run_at(p, r, choices, scope, taken(s), j),
-            Side::Wrong => end_of(s, Ending::Wrong),
-            Side::Short => end_of(s, Ending::Short),
-        },
-        Kind::Apply => {
-            let action = applied(p, r, s, a);
-            run_at(p, r, choices, action.scope, s, action.body)
-        }
-        _ => end_of(s, Ending::Passed),
-    }
-}
-
-// The state that a run starts from.
-fn start(packet: &[u32]) -> State
-    requires { ⌜ length (now packet) ≤ 32 ⌝ }
-    ensures { λ s. ⌜ ((p choices : List ℕ) → length (now (packet .entry)) ≡ F p → stateIn p choices s ≡ start p (now (packet .entry)) choices) ⌝ }
-{
-    let mut words = [0; 32];
-    areas::put(packet, &mut words);
-    State {
-        packet: words,
-        used: 0,
-    }
-}
-
-// The run of the pipeline.
-fn run_whole(p: &[u32], r: &[u32], packet: &[u32], choices: &[u32]) -> End
-    requires { ⌜ Accepted (now p) (now r) ⌝ }
-    requires { ⌜ Within (packetWidths (now p)) (now packet) ⌝ }
-    ensures { λ e. ⌜ EndsAs (now (p .entry)) (now (choices .entry)) e (pipelineRun (now (p .entry)) (now (r .entry)) (now (packet .entry)) (now (choices .entry))) ⌝ }
-{
-    let root = blocks::root(p) as usize;
-    run_at(p, r, choices, program(), start(packet), root)
-}
 
 // 11, for fields of 1 to 32 bits.
 fn check_packet(p: &[u32], packet: &[u32]) -> Checked

@@ -1,0 +1,3 @@
+-- Laws of the forms. A file cites files above it.
+mod Writes
+mod Steps

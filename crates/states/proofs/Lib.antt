@@ -1,0 +1,3 @@
+-- Laws of a state. A file cites files above it.
+pub mod Leaves
+pub mod Actions
