@@ -7,7 +7,9 @@ ghost use Rattle.model.specs.Lists.{word};
 ghost use Rattle.model.specs.Blocks.{F, N, A as actions, T, R, root, pipelineLength, width, widths, nodePlace, actionPlace, tablePlace, rulePlace, nodeAt, pipelineNode, body, parameterCount, parameterWidth, keyCount, key, defaultPlace, tableOf, value, mask, callPlace};
 ghost use Rattle.blocks.specs.Whole.{Whole};
 
-// How many words stand before the first record of a pipeline block, and how many a record has.
+// Where the root stands in a pipeline block, how many words stand before its first record, and how many a record has.
+pub const ROOT: usize = 4;
+
 pub const HEAD: usize = 5;
 
 pub const FIELD: usize = 1;
@@ -96,7 +98,7 @@ pub fn root(p: &[u32]) -> u32
     requires { ⌜ Whole (now p) ⌝ }
     ensures { λ r. ⌜ r ≡ root (now (p .entry)) ⌝ }
 {
-    p[4]
+    p[ROOT]
 }
 
 pub fn width(p: &[u32], i: usize) -> u32

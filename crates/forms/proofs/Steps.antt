@@ -1,7 +1,7 @@
 -- What is emitted at each kind of statement, and along a table's chain. Assumes nothing.
 use Prim.Native.Nat.{ℕ, _+_, _*_, _<_, _≤_}
 use native.Mathlib.Omega.{arith}
-use mathlib.Core.Path.{_≡_, refl, sym, ap, _∙_}
+use mathlib.Core.Path.{_≡_, refl, sym}
 use mathlib.Core.Bool.{Bool, true, false}
 use mathlib.Core.List.{List, _∷_}
 use borrow.Author.Tests.{ltb-true, ltb-false}
@@ -10,9 +10,8 @@ use types.Run.{OneOf}
 use lib.Dec.{ltb}
 use lib.ListN.{length}
 use Rattle.model.specs.Lists.{if_then_else_}
-use Rattle.model.specs.Blocks.{F, N, T, R, widths, pipelineNode}
-use Rattle.model.specs.Nodes.{kinds, kindIn}
-use Rattle.model.specs.Trees.{Tree, Stmt, asValue, asTest, asStatement, tree, treeBy}
+use Rattle.model.specs.Blocks.{F, N, T, R, widths}
+use Rattle.model.specs.Trees.{Stmt, asValue, asTest, tree}
 use Rattle.model.specs.Tables.{callOf}
 use Rattle.model.specs.Good.{Good}
 use Rattle.model.specs.Passive as passive

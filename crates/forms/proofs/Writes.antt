@@ -8,7 +8,7 @@ use lib.ListN.{length, take, getD}
 use Rattle.model.specs.Blocks.{F, widths, node}
 use Rattle.model.specs.Trees.{Tree, Val, Test, Stmt, asTest, asValue}
 use Rattle.model.specs.Passive as passive
-use Rattle.model.specs.Passive.{Passive, Origin, _then_, Vars, next, Form, form, beside, newWhereDiffers, join, noApply, renamed, renamedTest}
+use Rattle.model.specs.Passive.{Passive, Origin, Vars, next, Form, form, beside, newWhereDiffers, join, noApply, renamed, renamedTest}
 use Rattle.model.specs.Emit.{formLimit, emitValue, emitTest, emit}
 use Rattle.model.specs.declared.Comparison.{Comparison}
 use Rattle.pieces.specs.Pieces.{Behind, Start, emitTree}
@@ -19,10 +19,10 @@ use Rattle.variables.specs.declared.Vars.{Vars as Held}
 use Rattle.variables.specs.declared.Made.{Made}
 use Rattle.variables.specs.Variables.{Holds, vars, few}
 use Rattle.variables.specs.Joined.{joinNodes, afterJoin, Joins}
-use Rattle.forms.specs.Writes.{Writes, madeOf, Tests, JoinedBehind, guardForm}
+use Rattle.forms.specs.Writes.{Writes, madeOf, Tests, JoinedBehind, guardForm, sequenceForm, choiceForm}
 
-pub few-variables : {at next : ℕ} → (at ≤ formLimit → few at next) → at ≤ formLimit → next ≤ 10000000
-few-variables f h = let k = f h in omega arith
+pub few-variables : {at next : ℕ} → few at next → at ≤ formLimit → next ≤ 10000000
+few-variables f h = omega arith
 
 -- the right side of a choice starts from the variables before it, numbering on
 holds-beside : {p lent widths₀ widths₁ : List ℕ} {v w : Held} {s l : Vars} → Holds p lent widths₀ v s → Holds p lent widths₁ w l
@@ -68,7 +68,7 @@ module _ {p : List ℕ} {f g : Vars → Form} {at : ℕ} {v : Held} {nodes₀ no
   pub sequence-writes : {m : Made} → Writes p f at v nodes₀ nodes₁ widths₀ widths₁ l → length nodes₁ ≡ length nodes₀
       → Writes p g (l .at) (l .vars) nodes₁ nodes₂ widths₁ widths₂ r → length nodes₂ ≡ length nodes₁
       → Behind (λ _. node 37 (l .at - 1) (r .at - 1) 0 ∷ []) 0 (r .at) nodes₂ nodes₃ to → m ≡ madeOf to (r .vars)
-      → Writes p (λ s. let a = f s in let b = g (a .after) in form (a .body then b .body) (b .after)) at v nodes₀ nodes₃ widths₀ widths₂ m
+      → Writes p (sequenceForm f g) at v nodes₀ nodes₃ widths₀ widths₂ m
   unfolding emit
   sequence-writes a s₁ b s₂ c e =
       rw e
@@ -87,8 +87,7 @@ module _ {p : List ℕ} {f g : Vars → Form} {at : ℕ} {v : Held} {nodes₀ no
   pub choice-writes : (o : Origin) → Writes p f at v nodes₀ nodes₁ widths₀ widths₁ l → length nodes₁ ≡ length nodes₀
       → Writes p g (l .at) (vars (v .current) (l .vars .next)) nodes₁ nodes₂ widths₁ widths₂ r → length nodes₂ ≡ length nodes₁ → r .at ≤ m .at
       → (m .at ≤ formLimit → few (m .at) (m .vars .next)) → JoinedBehind p v l r nodes₂ nodes₃ widths₂ widths₃ m
-      → Writes p (λ s. let a = f s in let b = g (beside s (a .after)) in join (widths p) newWhereDiffers o s (a .body) (a .after) (b .body) (b .after)) at v nodes₀
-      nodes₃ widths₀ widths₃ m
+      → Writes p (choiceForm p o f g) at v nodes₀ nodes₃ widths₀ widths₃ m
   unfolding emit join joinNodes
   choice-writes o a s₁ b s₂ on few j = record {
     onward = omega (arith, a .onward, b .onward);
@@ -124,10 +123,6 @@ module _ {p : List ℕ} {at : ℕ} {v : Held} {nodes₀ nodes₁ : List ℕ} {to
   unfolding emit passive.passify
   havoc-writes field area area′ b e g =
       renews f (b .onward) (behind-some (λ _. omega arith) b) field (λ s. Passive.havoced (next s)) area area′ e (grows (λ _. omega arith) b) g (λ lent s h. b)
-
--- the first words of the current variables, as they are lent
-pub over-first : (p current : List ℕ) (count : ℕ) {ws : List ℕ} → ws ≡ take count current → count ≡ F p → ws ≡ take (F p) current
-over-first p current count e d = e ∙ ap (λ n. take n current) d
 
 -- a test over the current variables
 module _ {p lent area : List ℕ} {v : Held} {s : Vars} (h : Holds p lent area v s) where

@@ -2,7 +2,6 @@
 // nothing more is emitted, and the number says so.
 use actions::Scope;
 use actions::action_of;
-use areas::first;
 use guards::guard_behind;
 use model::Hit;
 use model::Kind;
@@ -15,6 +14,7 @@ use pieces::start;
 use tables::next;
 use variables::Made;
 use variables::Vars;
+use variables::fields;
 use variables::fresh;
 use variables::join;
 ghost use mathlib.Core.Path.{_≡_};
@@ -62,11 +62,10 @@ fn tree_behind(p: &[u32], given: &[u32; 2], v: Vars, n: u32, at: u32, nodes: &mu
     ensures { λ to. ⌜ Behind (emitTree (take (F (now (p .entry))) (v .current)) (tree (now (p .entry)) (now (given .entry)) n)) 0 at (now (nodes .entry)) (now (nodes .exit)) to ⌝ }
     ensures { λ to. ⌜ 1 ≤ to ⌝ }
 {
-    let count = blocks::field_count(p);
     child_behind(
         p,
         given,
-        first(&v.current, count),
+        fields(p, &v.current),
         Role::Child,
         n,
         0,
@@ -121,7 +120,7 @@ fn assign_at(
     requires { ⌜ value < N (now p) ⌝ }
     requires { ⌜ IsValue (tree (now p) (now given) value) ⌝ }
     requires { ⌜ at ≤ formLimit ⌝ }
-    requires { ⌜ (at ≤ formLimit → few at (v .next)) ⌝ }
+    requires { ⌜ few at (v .next) ⌝ }
     ensures { λ m. ⌜ Writes (now (p .entry)) (passive.passify (fieldWidths (now (p .entry))) newWhereDiffers noApply (Stmt.assign f (asValue (tree (now (p .entry)) (now (given .entry)) value))))
         at v (now (nodes .entry)) (now (nodes .exit)) (now (widths .entry)) (now (widths .exit)) m ⌝ }
 {
@@ -138,7 +137,7 @@ fn havoc_at(p: &[u32], f: usize, at: u32, nodes: &mut [u32], widths: &mut [u32],
     requires { ⌜ F (now p) ≤ 32 ⌝ }
     requires { ⌜ f < F (now p) ⌝ }
     requires { ⌜ at ≤ formLimit ⌝ }
-    requires { ⌜ (at ≤ formLimit → few at (v .next)) ⌝ }
+    requires { ⌜ few at (v .next) ⌝ }
     ensures { λ m. ⌜ Writes (now (p .entry)) (passive.passify (fieldWidths (now (p .entry))) newWhereDiffers noApply (Stmt.havoc f))
         at v (now (nodes .entry)) (now (nodes .exit)) (now (widths .entry)) (now (widths .exit)) m ⌝ }
 {
@@ -184,8 +183,7 @@ fn guard_at(
     ensures { λ to. ⌜ ((widths : List ℕ) → Writes (now (p .entry)) (guardForm (now (p .entry)) (now (r .entry)) i negated) at v
         (now (nodes .entry)) (now (nodes .exit)) widths widths (madeOf to v)) ⌝ }
 {
-    let count = blocks::field_count(p);
-    guard_behind(p, r, first(&v.current, count), i, negated, at, nodes)
+    guard_behind(p, r, fields(p, &v.current), i, negated, at, nodes)
 }
 
 // The statement at node n.

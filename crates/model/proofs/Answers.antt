@@ -18,7 +18,7 @@ use Rattle.model.specs.Answers as said
 use Rattle.model.specs.Answers.{Answer, done, refused, after, told, refusalOf, yesOrNo}
 use Rattle.model.specs.Refusals.{Row, given, judge, checkRows, conditionRows, evaluateRows, lateRow}
 use Rattle.model.specs.Calls as calls
-use Rattle.model.specs.Calls.{Begins, Ended, endValues, wordsInto, lookup, ended, failsWhole, load, check, confirm, passify, condition, evaluate, extract, loadRows, startRows, runRows, passifyRows, extractRows}
+use Rattle.model.specs.Calls.{Begins, endValues, wordsInto, lookup, ended, failsWhole, load, check, confirm, passify, condition, evaluate, extract, loadRows, startRows, runRows, passifyRows, extractRows}
 use Rattle.model.specs.Demands.{One, SamePart, OneAnswer, Demand1}
 use Rattle.model.specs.declared.Refusal.{Refusal}
 use Rattle.model.specs.declared.Part.{Part}

@@ -71,13 +71,14 @@ module _ (p : List ℕ) where
 
 -- ---- the trees
 
+-- the sort and the tree of a node, from those before it
+abbrev pub sortStep : List ℕ → List Sort → ℕ → Sort
+sortStep p before i = sortOf Stage.Pipeline (widths p) (T p) before (pipelineNode p i)
+
+abbrev pub treeStep : List ℕ → List ℕ → List Tree → ℕ → Tree
+treeStep p given before i = treeOf given before i (pipelineNode p i)
+
 module _ (p : List ℕ) (tables : ℕ) (given : List ℕ) where
-  abbrev sortStep : List Sort → ℕ → Sort
-  sortStep before i = sortOf Stage.Pipeline (widths p) (T p) before (pipelineNode p i)
-
-  abbrev treeStep : List Tree → ℕ → Tree
-  treeStep before i = treeOf given before i (pipelineNode p i)
-
   abbrev pub PlacedAt : ℕ → Type 0
   PlacedAt x = let n = pipelineNode p x in Placed (widths p) tables (T p) given (kindIn kinds (n .kind)) (n .a) (n .b)
 
@@ -87,25 +88,25 @@ module _ (p : List ℕ) (tables : ℕ) (given : List ℕ) where
 
   module _ (all : AllWidths (widths p)) where
     child-fits : (i c : ℕ) → i < N p → ((j : ℕ) → j < i → OfSortAt j) → All PlacedAt (getD (build (underStep p) i) c [])
-        → OfSort (widths p) tables (getD (build sortStep i) c Sort.Malformed) (getD (build treeStep i) c Tree.nothing)
+        → OfSort (widths p) tables (getD (build (sortStep p) i) c Sort.Malformed) (getD (build (treeStep p given) i) c Tree.nothing)
     unfolding pipelineSorts trees underEach
     child-fits i c h rec placed = go (ltb c i) refl
       where
-        go : (b : Bool) → ltb c i ≡ b → OfSort (widths p) tables (getD (build sortStep i) c Sort.Malformed) (getD (build treeStep i) c Tree.nothing)
+        go : (b : Bool) → ltb c i ≡ b → OfSort (widths p) tables (getD (build (sortStep p) i) c Sort.Malformed) (getD (build (treeStep p given) i) c Tree.nothing)
         go true e =
             let k = ltb-true c i e in
-            rw (build-before sortStep i (N p) c Sort.Malformed k (omega arith), build-before treeStep i (N p) c Tree.nothing k (omega arith))
+            rw (build-before (sortStep p) i (N p) c Sort.Malformed k (omega arith), build-before (treeStep p given) i (N p) c Tree.nothing k (omega arith))
             (rec c k (rw (build-before (underStep p) i (N p) c [] k (omega arith)) at placed))
-        go false e = rw (build-past sortStep i c Sort.Malformed (ltb-false c i e)) (fit (widths p) tables Sort.Malformed tt)
+        go false e = rw (build-past (sortStep p) i c Sort.Malformed (ltb-false c i e)) (fit (widths p) tables Sort.Malformed tt)
 
     step-fits : (i : ℕ) → i < N p → ((j : ℕ) → j < i → OfSortAt j) → All PlacedAt (i ∷ gathered (build (underStep p) i) (children (pipelineNode p i)))
-        → OfSort (widths p) tables (sortStep (build sortStep i) i) (treeStep (build treeStep i) i)
+        → OfSort (widths p) tables (sortStep p (build (sortStep p) i) i) (treeStep p given (build (treeStep p given) i) i)
     unfolding sortOf
     step-fits i h rec placed =
         let n = pipelineNode p i in
         let k = kindIn kinds (n .kind) in
-        let sort : ℕ → Sort = λ j. getD (build sortStep i) j Sort.Malformed in
-        let node : ℕ → Tree = λ j. getD (build treeStep i) j Tree.nothing in
+        let sort : ℕ → Sort = λ j. getD (build (sortStep p) i) j Sort.Malformed in
+        let node : ℕ → Tree = λ j. getD (build (treeStep p given) i) j Tree.nothing in
         let us = build (underStep p) i in
         only-fits (widths p) tables (unusedZero k n) (sortBy (widths p) (T p) sort k (n .a) (n .b) (n .c)) λ e.
         node-fits (widths p) tables all (T p) given sort node i k (n .a) (n .b) (n .c) (placed .0)
@@ -119,5 +120,5 @@ module _ (p : List ℕ) (tables : ℕ) (given : List ℕ) where
         go : (i : ℕ) → ((j : ℕ) → j < i → OfSortAt j) → (b : Bool) → ltb i (N p) ≡ b → OfSortAt i
         go i rec true e placed =
             let h = ltb-true i (N p) e in
-            rw (build-at sortStep (N p) i Sort.Malformed h, build-at treeStep (N p) i Tree.nothing h) (step-fits i h rec (rw (under-at p i h) at placed))
-        go i rec false e placed = rw (build-past sortStep (N p) i Sort.Malformed (ltb-false i (N p) e)) (fit (widths p) tables Sort.Malformed tt)
+            rw (build-at (sortStep p) (N p) i Sort.Malformed h, build-at (treeStep p given) (N p) i Tree.nothing h) (step-fits i h rec (rw (under-at p i h) at placed))
+        go i rec false e placed = rw (build-past (sortStep p) (N p) i Sort.Malformed (ltb-false i (N p) e)) (fit (widths p) tables Sort.Malformed tt)

@@ -26,7 +26,6 @@ use Rattle.model.proofs.Lists.{length-each}
 use Rattle.model.proofs.NodeList.{length-words}
 use Rattle.model.proofs.First.{once-stop, once-on, judge-append}
 use Rattle.model.proofs.Passing.{passed-on, tells-on, check-accepts, check-refuses}
-use Rattle.model.proofs.Accepted.{accepted-good}
 use Rattle.pieces.proofs.Pieces.{alone}
 use Rattle.actions.specs.Scopes.{programScope}
 use Rattle.variables.specs.declared.Vars.{Vars as Held}

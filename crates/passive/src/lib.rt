@@ -6,7 +6,6 @@ use model::Passified;
 use model::Refusal;
 use pieces::LIMIT;
 use pieces::put_room;
-use tables::next;
 use variables::Made;
 use variables::Vars;
 ghost use mathlib.Core.Path.{_≡_};
@@ -14,12 +13,10 @@ ghost use Prim.Native.Nat.{_≤_, _<_};
 ghost use lib.ListN.{take};
 ghost use Rattle.model.specs.Lists.{each};
 ghost use Rattle.model.specs.Blocks.{F};
-ghost use Rattle.model.specs.Passive.{form};
 ghost use Rattle.model.specs.Emit.{passiveForm};
 ghost use Rattle.model.specs.Calls.{Passifies};
 ghost use Rattle.model.specs.Demands.{Accepted};
 ghost use Rattle.blocks.specs.Whole.{Whole};
-ghost use Rattle.variables.specs.Variables.{vars};
 ghost use Rattle.passive.specs.Formed.{Counts, Leaves};
 
 // Each field's variable is the field's own number: variables 0 to F-1 are the packet.

@@ -11,16 +11,16 @@ use Rattle.bits.specs.Width.{fits}
 use Rattle.model.specs.Lists.{build}
 use Rattle.model.specs.Blocks.{N, T, widths, pipelineNode}
 use Rattle.model.specs.Nodes.{kinds, kindIn, unusedZero, widthOf, isTest, isFormed, isStatement, isWidth, isValue, alike, only, sortBy, sortOf}
-use Rattle.model.specs.Trees.{Val, Tree, trees, tree, treeOf, treeBy}
+use Rattle.model.specs.Trees.{Val, Tree, trees, tree, treeBy}
 use Rattle.model.specs.Refusals.{pipelineSorts, sortAt}
 use Rattle.model.specs.Demands.{Accepted}
 use Rattle.model.specs.declared.Kind.{Kind}
 use Rattle.model.specs.declared.Sort.{Sort}
-use Rattle.model.specs.declared.Stage.{Stage}
 use Rattle.model.proofs.Booleans.{both-true}
 use Rattle.model.proofs.Lists.{made, build-at}
 use Rattle.model.proofs.Every.{build-before, build-past, build-related}
 use Rattle.model.proofs.SortTests.{value-is, alike-parts}
+use Rattle.model.proofs.Decoded.{sortStep, treeStep}
 use Rattle.model.proofs.Accepted.{rows, accepted-good}
 use Rattle.model.proofs.Uses.{accepted-children}
 use Rattle.pieces.specs.Sound.{IsValue, IsTest, Reads, Sound}
@@ -126,16 +126,10 @@ module _ (ws : List ℕ) (tables : ℕ) (given : List ℕ) (sort : ℕ → Sort)
   kind-formed Kind.Unknown a b c = by-test false Sort.Malformed λ e. (tt, tt)
 
 module _ (p given : List ℕ) where
-  abbrev sortStep : List Sort → ℕ → Sort
-  sortStep before i = sortOf Stage.Pipeline (widths p) (T p) before (pipelineNode p i)
-
-  abbrev treeStep : List Tree → ℕ → Tree
-  treeStep before i = treeOf given before i (pipelineNode p i)
-
   -- a node over sorts and trees of those before it
   module _ (ss : List Sort) (node : ℕ → Tree) (i : ℕ) (are : (x : ℕ) → OfSort (getD ss x Sort.Malformed) (node x)) where
     node-formed : let n = pipelineNode p i in let k = kindIn kinds (n .kind) in
-        Formed (sortStep ss i) (treeBy given node i k (n .a) (n .b) (n .c)) (Reads node k (n .a) (n .b) (n .c))
+        Formed (sortStep p ss i) (treeBy given node i k (n .a) (n .b) (n .c)) (Reads node k (n .a) (n .b) (n .c))
     unfolding sortOf
     node-formed =
         let n = pipelineNode p i in
@@ -147,21 +141,21 @@ module _ (p given : List ℕ) where
   all-formed : (x : ℕ) → OfSort (sortAt (pipelineSorts p) x) (tree p given x)
   unfolding pipelineSorts trees
   all-formed x =
-      build-related sortStep treeStep OfSort Sort.Malformed Tree.nothing tt (λ ss ts i are. node-formed ss (λ x. getD ts x Tree.nothing) i are .is) (N p) x
+      build-related (sortStep p) (treeStep p given) OfSort Sort.Malformed Tree.nothing tt (λ ss ts i are. node-formed ss (λ x. getD ts x Tree.nothing) i are .is) (N p) x
 
-  before-formed : (i x : ℕ) → i < N p → OfSort (getD (build sortStep i) x Sort.Malformed) (tree p given x)
+  before-formed : (i x : ℕ) → i < N p → OfSort (getD (build (sortStep p) i) x Sort.Malformed) (tree p given x)
   unfolding pipelineSorts
   before-formed i x h = go (ltb x i) refl
     where
-      go : (b : Bool) → ltb x i ≡ b → OfSort (getD (build sortStep i) x Sort.Malformed) (tree p given x)
-      go true e = rw (build-before sortStep i (N p) x Sort.Malformed (ltb-true x i e) (omega arith)) (all-formed x)
-      go false e = rw (build-past sortStep i x Sort.Malformed (ltb-false x i e)) tt
+      go : (b : Bool) → ltb x i ≡ b → OfSort (getD (build (sortStep p) i) x Sort.Malformed) (tree p given x)
+      go true e = rw (build-before (sortStep p) i (N p) x Sort.Malformed (ltb-true x i e) (omega arith)) (all-formed x)
+      go false e = rw (build-past (sortStep p) i x Sort.Malformed (ltb-false x i e)) tt
 
   node-reads : (i : ℕ) → i < N p → isFormed (sortAt (pipelineSorts p) i) ≡ true
       → let n = pipelineNode p i in Reads (tree p given) (kindIn kinds (n .kind)) (n .a) (n .b) (n .c)
   unfolding pipelineSorts made
   node-reads i h e =
-      node-formed (build sortStep i) (tree p given) i (λ x. before-formed i x h) .gives (rw (build-at sortStep (N p) i Sort.Malformed h) at e)
+      node-formed (build (sortStep p) i) (tree p given) i (λ x. before-formed i x h) .gives (rw (build-at (sortStep p) (N p) i Sort.Malformed h) at e)
 
 pub sound : (p r : List ℕ) → Accepted p r → Sound p
 sound p r e =

@@ -20,9 +20,6 @@ const MARK_BYTES: usize = 2;
 
 const WORD_BYTES: usize = 4;
 
-// Where the root stands in a pipeline block.
-const ROOT_AT: usize = 4;
-
 // The table of marks.
 fn mark(g: Group) -> [u8; 2]
     ensures { λ m. ⌜ m ≡ mark g ⌝ }
@@ -243,7 +240,7 @@ fn write_pipeline(file: &[u8], s: Runs, pipeline: &mut [u32])
         count: 1,
         end: at + bytes(Group::Root),
     };
-    let fields = copy_run(file, Group::Root, root, pipeline, ROOT_AT);
+    let fields = copy_run(file, Group::Root, root, pipeline, blocks::ROOT);
     let nodes = copy_run(file, Group::Field, s.fields, pipeline, fields);
     let actions = copy_run(file, Group::Node, s.nodes, pipeline, nodes);
     let tables = copy_run(file, Group::Action, s.actions, pipeline, actions);

@@ -19,7 +19,7 @@ ghost use Rattle.model.specs.Lists.{if_then_else_, word, part};
 ghost use Rattle.model.specs.Blocks.{F, T, widths};
 ghost use Rattle.model.specs.Tables.{hit, partOf};
 ghost use Rattle.model.specs.Good.{Within};
-ghost use Rattle.model.specs.Runs.{run, packetWidths, startPacket};
+ghost use Rattle.model.specs.Runs.{packetWidths, startPacket};
 ghost use Rattle.model.specs.Answers.{done, after, told, yesOrNo, checked, confirmed};
 ghost use Rattle.model.specs.Refusals.{judge, packetRows};
 ghost use Rattle.model.specs.Calls.{over, startRows, lookup, wordsInto, LooksUp, ended, Tells, Runs, failsWhole, Confirms};

@@ -12,9 +12,8 @@ use types.Run.{OneOf}
 use lib.Dec.{eqb, ltb}
 use lib.ListN.{length, drop-of-length-le}
 use Rattle.model.specs.Lists.{if_then_else_, word}
-use Rattle.model.specs.Blocks.{F, N, T, R, widths, pipelineNode}
-use Rattle.model.specs.Nodes.{kinds, kindIn}
-use Rattle.model.specs.Trees.{Tree, Stmt, asValue, asTest, asStatement, tree, treeBy, truthOf, bitsIn}
+use Rattle.model.specs.Blocks.{F, N, T, R, widths}
+use Rattle.model.specs.Trees.{Stmt, asValue, asTest, asStatement, tree, truthOf, bitsIn}
 use Rattle.model.specs.Tables.{hit, callOf}
 use Rattle.model.specs.Good.{Within, Good, GoodTest}
 use Rattle.model.specs.Demands.{Accepted}

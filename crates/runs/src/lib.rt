@@ -20,7 +20,7 @@ ghost use Prim.Native.Nat.{ℕ, _≤_};
 ghost use lib.ListN.{length};
 ghost use Rattle.model.specs.Blocks.{F};
 ghost use Rattle.model.specs.Good.{Within};
-ghost use Rattle.model.specs.Runs.{run, packetWidths, start, pipelineRun};
+ghost use Rattle.model.specs.Runs.{packetWidths, start, pipelineRun};
 ghost use Rattle.model.specs.Demands.{Accepted};
 ghost use Rattle.states.specs.States.{stateIn, EndsAs};
 ghost use Rattle.runs.specs.Runnable.{Runnable, runOf};

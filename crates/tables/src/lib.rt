@@ -49,7 +49,7 @@ pub fn matches(p: &[u32], r: &[u32], packet: &[u32], i: usize) -> bool
 }
 
 // Block order.
-pub fn tried_before(r: &[u32], i: usize, j: usize) -> bool
+fn tried_before(r: &[u32], i: usize, j: usize) -> bool
     requires { ⌜ i < R (now r) ⌝ }
     requires { ⌜ j < R (now r) ⌝ }
     ensures { λ b. ⌜ b ≡ triedBefore (now (r .entry)) i j ⌝ }

@@ -15,15 +15,12 @@ use Rattle.variables.specs.Variables.{Holds, vars}
 
 -- ---- the first words
 
-module _ (count fields : ℕ) (ws : List ℕ) (e : count ≡ fields) (h : fields ≤ length ws) where
-  pub first-fields : take count ws ≡ take fields ws
-  first-fields = rw e
+module _ (count fields : ℕ) (ws : List ℕ) {lent : List ℕ} (is : lent ≡ take count ws) (e : count ≡ fields) where
+  pub first-fields : lent ≡ take fields ws
+  first-fields = rw (is, e)
 
-  pub first-length : length (take count ws) ≡ fields
-  first-length = rw e (length-take-le fields ws h)
-
-  pub first-count : count ≡ length (take count ws)
-  first-count = e ∙ sym first-length
+  pub first-length : fields ≤ length ws → length lent ≡ fields
+  first-length h = ap length first-fields ∙ length-take-le fields ws h
 
 -- ---- the widths
 

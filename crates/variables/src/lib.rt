@@ -33,14 +33,13 @@ struct Tied {
 }
 
 // The variables of the fields, of the words that hold them.
-fn fields<'a>(p: &[u32], current: &'a [u32]) -> &'a [u32]
+pub fn fields<'a>(p: &[u32], current: &'a [u32]) -> &'a [u32]
     requires { ⌜ Whole (now p) ⌝ }
     requires { ⌜ F (now p) ≤ length (now current) ⌝ }
     ensures { λ r. ⌜ now r ≡ take (F (now (p .entry))) (now (current .entry)) ⌝ }
     ensures { λ r. ⌜ length (now r) ≡ F (now (p .entry)) ⌝ }
 {
-    let count = blocks::field_count(p);
-    &current[..count]
+    areas::first(current, blocks::field_count(p))
 }
 
 // The width of a variable, where there is room for it.

@@ -1,6 +1,4 @@
 -- `capi::mz_lookup` meets its contract. Assumes nothing.
-use mathlib.Core.Path.{ap}
-use Rattle.model.specs.Answers.{lookedUp}
 use borrow.Author.Needs.{needs}
 use Rattle.capi.proofs.mz_lookup.Statement.{statement}
 use Rattle.capi.proofs.mz_lookup.Tie as tie

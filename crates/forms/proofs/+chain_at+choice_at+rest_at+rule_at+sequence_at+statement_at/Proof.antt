@@ -213,9 +213,9 @@ pub +chain-at+choice-at+rest-at+rule-at+sequence-at+statement-at-spec : {M : Typ
     (λ c. search needs)  -- cast-b
     (λ c κs. search needs)  -- kind-in-requires
     (λ c. search needs)  -- enum-told
-    (λ c κs. let h = here t (c .before .before .before .before .before .before) in let q = assign-asks h (c .before .before .before .before .enum-told .given .1) in (well h, (narrow h, (q .0, (q .1 .0, (q .1 .1, (limit-holds (c .before .before .before .before .before .before .before .before .before .before .if1 .left), h .bound)))))))  -- assign-at-requires
+    (λ c κs. let h = here t (c .before .before .before .before .before .before) in let q = assign-asks h (c .before .before .before .before .enum-told .given .1) in (well h, (narrow h, (q .0, (q .1 .0, (q .1 .1, (limit-holds (c .before .before .before .before .before .before .before .before .before .before .if1 .left), h .bound (limit-holds (c .before .before .before .before .before .before .before .before .before .before .if1 .left)))))))))  -- assign-at-requires
     (λ c. search needs)  -- enum-told-2
-    (λ c κs. let h = here t (c .before .before .before .before) in (well h .whole, (narrow h, (havoc-asks h (c .before .before .enum-told2 .given .1), (limit-holds (c .before .before .before .before .before .before .before .before .if1 .left), h .bound)))))  -- havoc-at-requires
+    (λ c κs. let h = here t (c .before .before .before .before) in (well h .whole, (narrow h, (havoc-asks h (c .before .before .enum-told2 .given .1), (limit-holds (c .before .before .before .before .before .before .before .before .if1 .left), h .bound (limit-holds (c .before .before .before .before .before .before .before .before .if1 .left)))))))  -- havoc-at-requires
     (λ c. search needs)  -- enum-told-3
     (λ c κs. let h = here t (c .before .before .before .before .before) in let q = assume-asks h (c .before .before .before .enum-told3 .given .1) in (well h, (narrow h, (q .0, (q .1, h .bound)))))  -- tested-at-requires
     (λ c. search needs)  -- enum-told-4

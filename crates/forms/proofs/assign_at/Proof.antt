@@ -22,4 +22,4 @@ assign-at-spec = tie.close (tie.spec
     (λ c κs. search needs)  -- made-requires
     (λ c. (c .before .before .before .before .before .before .before .node-behind3 .kept .1 .1 .1 .0) ∙ (c .before .before .before .before .before .before .before .before .before .before .before .before .node-behind2 .kept .1 .1 .1 .0) ∙ (c .before .before .before .before .before .before .before .before .before .before .before .before .before .before .before .before .before .node-behind .kept .1 .1 .1 .0) ∙ c .before .before .before .before .before .before .before .before .before .before .before .before .before .before .before .before .before .before .before .before .before .before .tree-behind .kept .1 .1 .1 .1 .1 .0)  -- same-length
     (λ c. search needs)  -- same-length-2
-    (λ c. let s = c .before .before .before .before .before .before .before .before .before .before .before .before .before .before .before .before .before .before .before .before .before .before .before .before .before .before .before in assign-writes (s .pre .1 .1 .1 .1 .1 .1) (c .before .before .before .before .before .before .before .before .before .before .before .before .before .before .before .before .before .before .before .before .before .before .tree-behind .ensures .0) (c .before .before .before .before .before .before .before .before .before .before .before .before .before .before .before .before .before .before .before .before .before .before .tree-behind .kept .1 .1 .1 .1 .1 .0) _ _ _ (s .pre .1 .1 .1 .1 .0) (rw (c .before .before .before .before .before .before .before .before .before .before .before .before .before .before .before .before .before .before .before .node .ensures) at (c .before .before .before .before .before .before .before .before .before .before .before .before .before .before .before .before .before .node-behind .ensures .0)) (c .before .before .before .before .before .before .before .before .before .before .before .before .before .before .before .before .before .node-behind .kept .1 .1 .1 .0) (rw (c .before .before .before .before .before .before .before .before .before .before .before .before .before .before .node2 .ensures) at (c .before .before .before .before .before .before .before .before .before .before .before .before .node-behind2 .ensures .0)) (c .before .before .before .before .before .before .before .before .before .before .before .before .node-behind2 .kept .1 .1 .1 .0) (rw (c .before .before .before .before .before .before .before .before .before .node3 .ensures) at (c .before .before .before .before .before .before .before .node-behind3 .ensures .0)) (c .made .ensures) (c .before .before .before .fresh .ensures)))  -- returns
+    (λ c. let s = c .before .before .before .before .before .before .before .before .before .before .before .before .before .before .before .before .before .before .before .before .before .before .before .before .before .before .before in assign-writes (λ _. s .pre .1 .1 .1 .1 .1 .1) (c .before .before .before .before .before .before .before .before .before .before .before .before .before .before .before .before .before .before .before .before .before .before .tree-behind .ensures .0) (c .before .before .before .before .before .before .before .before .before .before .before .before .before .before .before .before .before .before .before .before .before .before .tree-behind .kept .1 .1 .1 .1 .1 .0) _ _ _ (s .pre .1 .1 .1 .1 .0) (rw (c .before .before .before .before .before .before .before .before .before .before .before .before .before .before .before .before .before .before .before .node .ensures) at (c .before .before .before .before .before .before .before .before .before .before .before .before .before .before .before .before .before .node-behind .ensures .0)) (c .before .before .before .before .before .before .before .before .before .before .before .before .before .before .before .before .before .node-behind .kept .1 .1 .1 .0) (rw (c .before .before .before .before .before .before .before .before .before .before .before .before .before .before .node2 .ensures) at (c .before .before .before .before .before .before .before .before .before .before .before .before .node-behind2 .ensures .0)) (c .before .before .before .before .before .before .before .before .before .before .before .before .node-behind2 .kept .1 .1 .1 .0) (rw (c .before .before .before .before .before .before .before .before .before .node3 .ensures) at (c .before .before .before .before .before .before .before .node-behind3 .ensures .0)) (c .made .ensures) (c .before .before .before .fresh .ensures)))  -- returns

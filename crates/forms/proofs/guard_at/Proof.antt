@@ -1,14 +1,13 @@
 -- `forms::guard_at` meets its contract. Assumes nothing.
 use borrow.Author.Needs.{needs}
 use Rattle.actions.proofs.Actions.{whole, few-fields}
-use Rattle.forms.proofs.Writes.{over-first, guard-writes}
+use Rattle.forms.proofs.Writes.{guard-writes}
 use Rattle.forms.proofs.guard_at.Statement.{statement}
 use Rattle.forms.proofs.guard_at.Tie as tie
 
 pub guard-at-spec : {M : Type 1} → statement M
 guard-at-spec = tie.close (tie.spec
-    (λ c κs. whole _ _ (c .before .before .before .pre .0))  -- field-count-requires
-    (λ c κs. let h = few-fields _ _ (c .before .before .before .before .before .before .before .pre .0) in search needs)  -- first-requires
+    (λ c κs. let s = c .before .before .before .before .before .before in let h = few-fields _ _ (s .pre .0) in (whole _ _ (s .pre .0), search needs))  -- fields-requires
     (λ c κs. search needs)  -- guard-behind-requires
     (λ c. search needs)  -- same-length
-    (λ c. λ area. let s = c .before .before .before .before .before .before .before .before .before .before .before .before in guard-writes (s .args .p .now) (s .args .r .now) (s .args .i) (s .args .negated) (s .pre .1 .1) (over-first (s .args .p .now) (s .args .t7 .current) (c .before .before .before .before .before .before .before .before .field-count .result) (c .before .before .before .before .first .ensures) (c .before .before .before .before .before .before .before .before .field-count .ensures)) (c .before .before .guard-behind .ensures) area))  -- returns
+    (λ c. λ area. let s = c .before .before .before .before .before .before .before .before .before .before .before in guard-writes (s .args .p .now) (s .args .r .now) (s .args .i) (s .args .negated) (s .pre .1 .1) (c .before .before .before .before .fields .ensures .0) (c .before .before .guard-behind .ensures) area))  -- returns

@@ -12,4 +12,4 @@ havoc-at-spec = tie.close (tie.spec
     (λ c κs. search needs)  -- made-requires
     (λ c. search needs)  -- same-length
     (λ c. search needs)  -- same-length-2
-    (λ c. let s = c .before .before .before .before .before .before .before .before .before .before .before .before .before in havoc-writes (s .pre .1 .1 .1 .1) _ _ _ (rw (c .before .before .before .before .before .before .before .before .before .node .ensures) at (c .before .before .before .before .before .before .before .node-behind .ensures .0)) (c .made .ensures) (c .before .before .before .fresh .ensures)))  -- returns
+    (λ c. let s = c .before .before .before .before .before .before .before .before .before .before .before .before .before in havoc-writes (λ _. s .pre .1 .1 .1 .1) _ _ _ (rw (c .before .before .before .before .before .before .before .before .before .node .ensures) at (c .before .before .before .before .before .before .before .node-behind .ensures .0)) (c .made .ensures) (c .before .before .before .fresh .ensures)))  -- returns

@@ -1,5 +1,5 @@
 -- `returns::checked` meets its contract. Assumes nothing.
-use mathlib.Core.List.{[], _∷_}
+use mathlib.Core.List.{[]}
 use Rattle.returns.proofs.Returns.{success}
 use borrow.Author.Needs.{needs}
 use Rattle.returns.proofs.checked.Statement.{statement}
