@@ -34,9 +34,9 @@ fn refusal(why: Refusal, out: &mut [u8]) -> usize
     ensures { λ end. ⌜ Adds (textOf (refusedAs (refusalOf why))) 0 (now (out .entry)) end (now (out .exit)) ⌝ }
 {
     let at = text::put(b"refused ", 0, out);
-    let at = number(model::number(why), b' ', at, out);
+    let at = number(refusals::number(why), b' ', at, out);
     let at = text::put(b"at ", at, out);
-    number(model::place(why), b'\n', at, out)
+    number(refusals::place(why), b'\n', at, out)
 }
 
 // The first line: n, V and 3n + 1.

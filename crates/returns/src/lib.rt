@@ -26,10 +26,10 @@ fn succeed(a: u64, b: u64, c: u64, first: &mut u64, second: &mut u64, third: &mu
 fn refuse(why: Refusal, first: &mut u64, second: &mut u64, third: &mut u64) -> u64
     ensures { λ r. ⌜ Returns (refusalOf why) r (now (first .exit)) (now (second .exit)) (now (third .exit)) ⌝ }
 {
-    *first = model::place(why);
+    *first = refusals::place(why);
     *second = 0;
     *third = 0;
-    model::number(why)
+    refusals::number(why)
 }
 
 // Load: both blocks' lengths.
