@@ -5,24 +5,18 @@ use mathlib.Core.Path.{_≡_, refl}
 use mathlib.Core.List.{List}
 use lib.ListN.{length}
 use Rattle.model.specs.Lists.{word}
-use Rattle.model.specs.Blocks.{F, A, N, T, R, root, widths, callAt, callPlace, defaultPlace}
+use Rattle.model.specs.Blocks.{A, N, T, R, root, widths, callAt, callPlace, defaultPlace}
 use Rattle.model.specs.Trees.{called}
 use Rattle.model.specs.Tables.{callOf}
 use Rattle.model.specs.Good.{Good}
 use Rattle.model.specs.Demands.{Accepted}
 use Rattle.model.specs.declared.Hit.{Hit}
 use Rattle.model.proofs.Accepted.{rows, call-fits, table-fits, rule-fits, accepted-good}
-use Rattle.blocks.specs.Whole.{Whole}
+use Rattle.blocks.proofs.Accepted.{whole}
 use Rattle.actions.specs.declared.Action.{Action}
 use Rattle.actions.specs.Scopes.{IsStatement, Calls, programScope, statementOf}
 
 module _ (p r : List ℕ) (accepted : Accepted p r) where
-  pub whole : Whole p
-  whole = accepted-good p r accepted .counts .pipelineWords
-
-  pub few-fields : F p ≤ 32
-  few-fields = accepted-good p r accepted .counts .mostFields
-
   pub root-statement : IsStatement p r programScope (root p)
   root-statement =
       let good = accepted-good p r accepted in
@@ -54,7 +48,7 @@ module _ (p r : List ℕ) (accepted : Accepted p r) where
 
   module _ {t : ℕ} (l : t < T p) where
     pub default-room : {at : ℕ} → at ≡ defaultPlace p t → at + 3 ≤ length p
-    default-room g = omega (arith, g, whole)
+    default-room g = omega (arith, g, whole p r accepted)
 
     pub default-action : {at : ℕ} → at ≡ defaultPlace p t → word p at < A p
     default-action g = rw g (default-there t l)
@@ -67,8 +61,11 @@ module _ (p r : List ℕ) (accepted : Accepted p r) where
       pub called-is : statementOf p (a .scope) (a .body) ≡ called p (callOf p r t h)
       called-is = rw (c .given, c .body)
 
-      pub body-below : a .body < N p
+      body-below : a .body < N p
       body-below = rw (c .body) (accepted-good p r accepted .bodyBelow _ (hit-fits h t below l .0))
 
-      pub body-good : Good (widths p) 0 (statementOf p (a .scope) (a .body))
+      body-good : Good (widths p) 0 (statementOf p (a .scope) (a .body))
       body-good = rw called-is (hit-fits h t below l .1)
+
+      pub body-statement : IsStatement p r (a .scope) (a .body)
+      body-statement = record { accepted = accepted; below = body-below; good = rw (c .inside) body-good }

@@ -7,7 +7,7 @@ use mathlib.Core.List.{List}
 use denote.Enum.Declared.{tagOf}
 use types.Run.{OneOf}
 use lib.ListN.{length}
-use Rattle.model.specs.Blocks.{F, T, widths, pipelineNode}
+use Rattle.model.specs.Blocks.{F, N, T, widths, pipelineNode}
 use Rattle.model.specs.Nodes.{kinds, kindIn}
 use Rattle.model.specs.Trees.{Tree, Stmt, asStatement, tree, treeBy}
 use Rattle.model.specs.Good.{Good}
@@ -60,6 +60,13 @@ module _ {p r : List ℕ} {scope : Scope} {n : ℕ} {node : Node} {kind : Kind} 
 
   pub below-fields : {f : ℕ} → f < length (widths p) → f < F p
   below-fields l = rw (← accepted-good p r (h .statement .accepted) .widthsLength) l
+
+  pub havoc-field : kind ≡ Kind.Havoc → a < F p
+  unfolding Good
+  havoc-field e = below-fields (good-by _ e)
+
+  pub first-below : (k : Kind) → kind ≡ k → (BeforeAll n k a b (node .c) → a < n) → a < N p
+  first-below k e first = omega (arith, first (children k e), h .statement .below)
 
   child : (j : ℕ) → j < n → WellFormed (statementOf p scope j) → IsStatement p r scope j
   child j l g = record { accepted = h .statement .accepted; below = omega (arith, h .statement .below); good = g }

@@ -1,14 +1,12 @@
-// The calls of document 01 for C, and for every language that can call C. A call returns 0 or a refusal's number; three numbers that the
-// caller lends take the values of a success or the place of a refusal. No call asks anything of its arguments.
+// The calls of document 01 for C, and for every language that can call C. No call asks anything of its arguments.
 ghost use mathlib.Core.Path.{_≡_};
-ghost use mathlib.Core.List.{[], _∷_};
+ghost use mathlib.Core.List.{[]};
 ghost use lib.ListN.{length};
 ghost use Rattle.model.specs.Answers.{told, yesOrNo, lookedUp};
 ghost use Rattle.model.specs.Blocks.{words};
-ghost use Rattle.model.specs.Calls.{load, check, lookup, run, endValues, endPacket, confirm, passify, written};
+ghost use Rattle.model.specs.Calls.{load, blockLengths, check, lookup, run, endValues, endPacket, confirm, passify, formSizes, written};
 ghost use Rattle.returns.specs.Returns.{Returns};
 
-// Load.
 #[no_mangle]
 pub extern "C" fn mz_load(
     file: &[u8],
@@ -18,7 +16,7 @@ pub extern "C" fn mz_load(
     second: &mut u64,
     third: &mut u64,
 ) -> u64
-    ensures { λ r. ⌜ Returns (told (λ b. length (b .pipeline) ∷ length (b .rules) ∷ []) (load (now (file .entry)) (length (now (pipeline .entry))) (length (now (rules .entry))))) r
+    ensures { λ r. ⌜ Returns (told blockLengths (load (now (file .entry)) (length (now (pipeline .entry))) (length (now (rules .entry))))) r
         (now (first .exit)) (now (second .exit)) (now (third .exit)) ⌝ }
     ensures { λ _. ⌜ now (pipeline .exit) ≡ written (load (now (file .entry)) (length (now (pipeline .entry))) (length (now (rules .entry)))) (λ b. b .pipeline) (now (pipeline .entry)) ⌝ }
     ensures { λ _. ⌜ now (rules .exit) ≡ written (load (now (file .entry)) (length (now (pipeline .entry))) (length (now (rules .entry)))) (λ b. b .rules) (now (rules .entry)) ⌝ }
@@ -27,7 +25,6 @@ pub extern "C" fn mz_load(
     returns::loaded(answer, first, second, third)
 }
 
-// Check.
 #[no_mangle]
 pub extern "C" fn mz_check(
     pipeline: &[u32],
@@ -59,7 +56,6 @@ pub extern "C" fn mz_lookup(
     returns::looked_up(answer, first, second, third)
 }
 
-// Run.
 #[no_mangle]
 pub extern "C" fn mz_run(
     pipeline: &[u32],
@@ -79,7 +75,6 @@ pub extern "C" fn mz_run(
     returns::ran(answer, first, second, third)
 }
 
-// Confirm.
 #[no_mangle]
 pub extern "C" fn mz_confirm(
     pipeline: &[u32],
@@ -96,7 +91,6 @@ pub extern "C" fn mz_confirm(
     returns::confirmed(answer, first, second, third)
 }
 
-// Passify.
 #[no_mangle]
 pub extern "C" fn mz_passify(
     pipeline: &[u32],
@@ -107,7 +101,7 @@ pub extern "C" fn mz_passify(
     second: &mut u64,
     third: &mut u64,
 ) -> u64
-    ensures { λ r. ⌜ Returns (told (λ w. length (w .nodes) ∷ length (w .widths) ∷ []) (passify (now (pipeline .entry)) (now (rules .entry)) (length (now (nodes .entry))) (length (now (widths .entry))))) r
+    ensures { λ r. ⌜ Returns (told formSizes (passify (now (pipeline .entry)) (now (rules .entry)) (length (now (nodes .entry))) (length (now (widths .entry))))) r
         (now (first .exit)) (now (second .exit)) (now (third .exit)) ⌝ }
     ensures { λ _. ⌜ now (nodes .exit) ≡ written (passify (now (pipeline .entry)) (now (rules .entry)) (length (now (nodes .entry))) (length (now (widths .entry)))) (λ w. words (w .nodes)) (now (nodes .entry)) ⌝ }
     ensures { λ _. ⌜ now (widths .exit) ≡ written (passify (now (pipeline .entry)) (now (rules .entry)) (length (now (nodes .entry))) (length (now (widths .entry)))) (λ w. w .widths) (now (widths .entry)) ⌝ }

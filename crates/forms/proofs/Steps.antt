@@ -31,8 +31,9 @@ use Rattle.tables.proofs.Rest.{next-first, next-there, next-rest, rest-few}
 use Rattle.actions.specs.declared.Action.{Action}
 use Rattle.actions.specs.declared.Scope.{Scope}
 use Rattle.actions.specs.Scopes.{IsStatement, Calls}
-use Rattle.actions.proofs.Read.{Read, own, children, is, good-by, below-fields, Pair, sequence-pair, choice-pair, outside, is-skip}
-use Rattle.actions.proofs.Actions.{few-fields, called-is, body-below, body-good}
+use Rattle.actions.proofs.Read.{Read, own, children, is, good-by, below-fields, first-below, Pair, sequence-pair, choice-pair, outside, is-skip}
+use Rattle.blocks.proofs.Accepted.{few-fields}
+use Rattle.actions.proofs.Actions.{called-is, body-statement}
 use Rattle.variables.specs.declared.Vars.{Vars as Held}
 use Rattle.variables.specs.declared.Made.{Made}
 use Rattle.variables.specs.Variables.{few}
@@ -108,16 +109,8 @@ module _ (p r : List ℕ) (scope : Scope) (a b : ℕ) {t at next : ℕ} (start :
 
 module _ (p r : List ℕ) (accepted : Accepted p r) {t : ℕ} (there : t < T p) (h : Hit) (rule : (i : ℕ) → h ≡ Hit.Rule i → i < R r) (a : Action)
     (c : Calls p a (callOf p r t h)) where
-  body-statement : IsStatement p r (a .scope) (a .body)
-  body-statement =
-      record {
-        accepted = accepted;
-        below = body-below p r accepted there rule a c;
-        good = rw (c .inside) (body-good p r accepted there rule a c);
-      }
-
   pub body-asks : {m at next : ℕ} → ruleDepth p ≤ m → (at ≤ formLimit → few at next) → Asks p r (a .scope) (a .body) m at next
-  body-asks l f = (rw (c .inside) (omega (arith, body-statement .below, l)), (body-statement, f))
+  body-asks l f = let body = body-statement p r accepted there rule a c in (rw (c .inside) (omega (arith, body .below, l)), (body, f))
 
   pub body-is : formOf p r (a .scope) (a .body) ≡ bodyForm p r newWhereDiffers (callOf p r t h)
   body-is = rw (c .inside, called-is p r accepted there rule a c)
@@ -213,14 +206,10 @@ module _ {p r : List ℕ} {scope : Scope} {n t : ℕ} {node : Node} {kind : Kind
   assign-asks e =
       (below-fields (h .read) (good-by (h .read) _ e .0), (omega (arith, children (h .read) _ e .1, h .read .statement .below), reads _ e))
 
-  pub havoc-asks : kind ≡ Kind.Havoc → a < F p
-  unfolding Good
-  havoc-asks e = below-fields (h .read) (good-by (h .read) _ e)
-
   -- assume and assert are tests: what both ask
   module _ (k : Kind) (first : BeforeAll n k a b (node .c) → a < n) (test : Reads (tree p given) k a b (node .c) → IsTest (tree p given a)) where
     tested-asks : kind ≡ k → (a < N p) × IsTest (tree p given a)
-    tested-asks e = (omega (arith, first (children (h .read) k e), h .read .statement .below), test (reads k e))
+    tested-asks e = (first-below (h .read) k e first, test (reads k e))
 
   pub assume-asks : kind ≡ Kind.Assume → (a < N p) × IsTest (tree p given a)
   assume-asks = tested-asks Kind.Assume (λ c. c .0) (λ t. t)

@@ -19,6 +19,7 @@ use Rattle.variables.specs.declared.Vars.{Vars as Held}
 use Rattle.variables.specs.declared.Made.{Made}
 use Rattle.variables.specs.Variables.{Holds, vars, few}
 use Rattle.variables.specs.Joined.{joinNodes, afterJoin, Joins}
+use Rattle.variables.specs.Sides.{choiceNodes}
 use Rattle.forms.specs.Writes.{Writes, madeOf, Tests, JoinedBehind, guardForm, sequenceForm, choiceForm}
 
 pub few-variables : {at next : ℕ} → few at next → at ≤ formLimit → next ≤ 10000000
@@ -40,6 +41,12 @@ beyond-writes {p} {at} {v} {nodes} make area h = record {
   holds = λ lent s g k. absurd (omega arith);
 }
 
+-- `z` is `v` with a new variable for a field
+abbrev Renewed : List ℕ → Held → Held → ℕ → List ℕ → List ℕ → Type 0
+Renewed p v z field area area′ =
+    (z .next ≡ v .next + 1)
+    × ((lent : List ℕ) (s : Vars) → Holds p lent area v s → Holds p lent area′ z (passive.fresh s field (getD (widths p) field 0)))
+
 module _ {p : List ℕ} {at : ℕ} {v : Held} {nodes nodes′ : List ℕ} {to : ℕ} (f : at ≤ formLimit → few at (v .next)) (on : at ≤ to) (some : 1 ≤ to) where
   -- a statement that keeps the variables
   pub keeps : {m : Made} (make : Vars → Passive) (area : List ℕ) → m ≡ madeOf to v
@@ -49,8 +56,7 @@ module _ {p : List ℕ} {at : ℕ} {v : Held} {nodes nodes′ : List ℕ} {to : 
 
   -- a statement that renews the variable of a field
   pub renews : {m : Made} {z : Held} (field : ℕ) (make : Vars → Passive) (area area′ : List ℕ) → m ≡ madeOf to z → (to ≤ formLimit → at < to)
-      → (z .next ≡ v .next + 1)
-      × ((lent : List ℕ) (s : Vars) → Holds p lent area v s → Holds p lent area′ z (passive.fresh s field (getD (widths p) field 0)))
+      → Renewed p v z field area area′
       → ((lent : List ℕ) (s : Vars) → Holds p lent area v s → Behind (emit (make s)) 0 at nodes nodes′ to)
       → Writes p (λ s. form (make s) (passive.fresh s field (getD (widths p) field 0))) at v nodes nodes′ area area′ m
   renews field make area area′ e more g b =
@@ -64,23 +70,22 @@ module _ {p : List ℕ} {at : ℕ} {v : Held} {nodes nodes′ : List ℕ} {to : 
       })
 
 -- left, right, 37
-module _ {p : List ℕ} {f g : Vars → Form} {at : ℕ} {v : Held} {nodes₀ nodes₁ nodes₂ nodes₃ widths₀ widths₁ widths₂ : List ℕ} {l r : Made} {to : ℕ} where
-  pub sequence-writes : {m : Made} → Writes p f at v nodes₀ nodes₁ widths₀ widths₁ l → length nodes₁ ≡ length nodes₀
+module _ {p : List ℕ} {f g : Vars → Form} {at : ℕ} {v : Held} {nodes₀ nodes₁ nodes₂ nodes₃ widths₀ widths₁ widths₂ : List ℕ} {l r m : Made} where
+  pub sequence-writes : Writes p f at v nodes₀ nodes₁ widths₀ widths₁ l → length nodes₁ ≡ length nodes₀
       → Writes p g (l .at) (l .vars) nodes₁ nodes₂ widths₁ widths₂ r → length nodes₂ ≡ length nodes₁
-      → Behind (λ _. node 37 (l .at - 1) (r .at - 1) 0 ∷ []) 0 (r .at) nodes₂ nodes₃ to → m ≡ madeOf to (r .vars)
+      → Behind (λ _. node 37 (l .at - 1) (r .at - 1) 0 ∷ []) 0 (r .at) nodes₂ nodes₃ (m .at) → m .vars ≡ r .vars
       → Writes p (sequenceForm f g) at v nodes₀ nodes₃ widths₀ widths₂ m
   unfolding emit
-  sequence-writes a s₁ b s₂ c e =
-      rw e
-      (record {
-        onward = omega (arith, a .onward, b .onward, c .onward);
-        some = omega (arith, b .some, c .onward);
-        bound = λ h. let k = b .bound (omega (arith, c .onward)) in omega (arith, c .onward);
-        emitted = λ lent s h.
-            pair-behind (λ x y. node 37 (x - 1) (y - 1) 0 ∷ []) (a .emitted lent s h) s₁ (λ k. b .emitted lent (f s .after) (a .holds lent s h k)) (b .onward) s₂ (λ _. c)
-            (c .onward);
-        holds = λ lent s h k. b .holds lent (f s .after) (a .holds lent s h (omega (arith, b .onward, c .onward))) (omega (arith, c .onward));
-      })
+  sequence-writes a s₁ b s₂ c e = record {
+    onward = omega (arith, a .onward, b .onward, c .onward);
+    some = omega (arith, b .some, c .onward);
+    bound = λ h. let k = b .bound (omega (arith, c .onward)) in rw e (omega (arith, c .onward));
+    emitted = λ lent s h.
+        pair-behind (λ x y. node 37 (x - 1) (y - 1) 0 ∷ []) (a .emitted lent s h) s₁ (λ k. b .emitted lent (f s .after) (a .holds lent s h k)) (b .onward) s₂ (λ _. c)
+        (c .onward);
+    holds = λ lent s h k.
+        rw e (b .holds lent (f s .after) (a .holds lent s h (omega (arith, b .onward, c .onward))) (omega (arith, c .onward)));
+  }
 
 -- both sides, joined
 module _ {p : List ℕ} {f g : Vars → Form} {at : ℕ} {v : Held} {nodes₀ nodes₁ nodes₂ nodes₃ widths₀ widths₁ widths₂ widths₃ : List ℕ} {l r m : Made} where
@@ -88,7 +93,7 @@ module _ {p : List ℕ} {f g : Vars → Form} {at : ℕ} {v : Held} {nodes₀ no
       → Writes p g (l .at) (vars (v .current) (l .vars .next)) nodes₁ nodes₂ widths₁ widths₂ r → length nodes₂ ≡ length nodes₁ → r .at ≤ m .at
       → (m .at ≤ formLimit → few (m .at) (m .vars .next)) → JoinedBehind p v l r nodes₂ nodes₃ widths₂ widths₃ m
       → Writes p (choiceForm p o f g) at v nodes₀ nodes₃ widths₀ widths₃ m
-  unfolding emit join joinNodes
+  unfolding emit join joinNodes choiceNodes
   choice-writes o a s₁ b s₂ on few j = record {
     onward = omega (arith, a .onward, b .onward);
     some = omega (arith, b .some);
@@ -117,20 +122,22 @@ module _ {p : List ℕ} {at : ℕ} {v : Held} {nodes₀ nodes₁ : List ℕ} {to
   skip-writes b e area = keeps f (b .onward) (behind-some (λ _. omega arith) b) (λ _. Passive.skip) area e (λ lent s h. b)
 
   pub havoc-writes : {m : Made} {z : Held} (field : ℕ) (area area′ : List ℕ) → Behind (λ _. node 32 0 0 0 ∷ []) 0 at nodes₀ nodes₁ to → m ≡ madeOf to z
-      → (z .next ≡ v .next + 1)
-      × ((lent : List ℕ) (s : Vars) → Holds p lent area v s → Holds p lent area′ z (passive.fresh s field (getD (widths p) field 0)))
+      → Renewed p v z field area area′
       → Writes p (passive.passify (widths p) newWhereDiffers noApply (Stmt.havoc field)) at v nodes₀ nodes₁ area area′ m
   unfolding emit passive.passify
   havoc-writes field area area′ b e g =
       renews f (b .onward) (behind-some (λ _. omega arith) b) field (λ s. Passive.havoced (next s)) area area′ e (grows (λ _. omega arith) b) g (λ lent s h. b)
 
--- a test over the current variables
+-- a tree over the current variables
 module _ {p lent area : List ℕ} {v : Held} {s : Vars} (h : Holds p lent area v s) where
+  piece : (x y : Tree) → x ≡ y → emitTree (take (F p) (v .current)) x ≡ emitTree (s .current) y
+  piece x y e = rw (h .current) (ap (λ (z : Tree). emitTree (s .current) z) e)
+
   test-piece : (x : Tree) → IsTest x → emitTree (take (F p) (v .current)) x ≡ emitTest (renamedTest (s .current) (asTest x))
-  test-piece x e = rw (h .current) (ap (λ (z : Tree). emitTree (s .current) z) e)
+  test-piece x = piece x (Tree.test (asTest x))
 
   value-piece : (x : Tree) → IsValue x → emitTree (take (F p) (v .current)) x ≡ emitValue (renamed (s .current) (asValue x))
-  value-piece x e = rw (h .current) (ap (λ (z : Tree). emitTree (s .current) z) e)
+  value-piece x = piece x (Tree.value (asValue x))
 
 module _ {p : List ℕ} {at : ℕ} {v : Held} {nodes₀ nodes₁ : List ℕ} {x : Tree} {l : ℕ} (f : at ≤ formLimit → few at (v .next))
     (first : Behind (emitTree (take (F p) (v .current)) x) 0 at nodes₀ nodes₁ l) (s₁ : length nodes₁ ≡ length nodes₀) where
@@ -144,8 +151,7 @@ module _ {p : List ℕ} {at : ℕ} {v : Held} {nodes₀ nodes₁ : List ℕ} {x 
       → Behind (λ _. node 2 (v .next) 0 0 ∷ []) 0 l nodes₁ nodes₂ y → length nodes₂ ≡ length nodes₁
       → Behind (λ _. node 17 (l - 1) (y - 1) 0 ∷ []) 0 y nodes₂ nodes₃ q → length nodes₃ ≡ length nodes₂
       → Behind (λ _. node 35 (q - 1) 0 0 ∷ []) 0 q nodes₃ nodes₄ to → m ≡ madeOf to z
-      → (z .next ≡ v .next + 1)
-      × ((lent : List ℕ) (s : Vars) → Holds p lent area v s → Holds p lent area′ z (passive.fresh s field (getD (widths p) field 0)))
+      → Renewed p v z field area area′
       → Writes p (passive.passify (widths p) newWhereDiffers noApply (Stmt.assign field (asValue x))) at v nodes₀ nodes₄ area area′ m
   unfolding emit emitTest passive.passify
   assign-writes field area area′ t second s₂ third s₃ last e g =

@@ -18,10 +18,10 @@ use variables::fields;
 use variables::fresh;
 use variables::join;
 ghost use mathlib.Core.Path.{_≡_};
-ghost use mathlib.Core.List.{List};
-ghost use Prim.Native.Nat.{ℕ, _≤_, _<_};
+ghost use mathlib.Core.List.{List, [], _∷_};
+ghost use Prim.Native.Nat.{ℕ, _-_, _≤_, _<_};
 ghost use lib.ListN.{take};
-ghost use Rattle.model.specs.Blocks.{F, N, T, R, widths as fieldWidths};
+ghost use Rattle.model.specs.Blocks.{F, N, T, R, widths as fieldWidths, node};
 ghost use Rattle.model.specs.Trees.{Stmt, asValue, asTest, tree};
 ghost use Rattle.model.specs.Passive as passive;
 ghost use Rattle.model.specs.Passive.{Passive, Origin, form, newWhereDiffers, noApply, chainForm};
@@ -167,6 +167,17 @@ fn join_behind(
     join(p, before, left, right, &mut nodes[s..], widths)
 }
 
+// 37 over two parts, of which the left ends before the number `left` and the right was made last.
+fn pair_behind(left: u32, right: Made, nodes: &mut [u32]) -> Made
+    requires { ⌜ 1 ≤ left ⌝ }
+    requires { ⌜ 1 ≤ right .at ⌝ }
+    ensures { λ m. ⌜ Behind (λ _. node 37 (left - 1) (right .at - 1) 0 ∷ []) 0 (right .at) (now (nodes .entry)) (now (nodes .exit)) (m .at) ⌝ }
+    ensures { λ m. ⌜ m .vars ≡ right .vars ⌝ }
+{
+    let to = node_behind(0, right.at, node(37, left - 1, right.at - 1, 0), nodes);
+    made(to, right.vars)
+}
+
 // Assume that rule i matches, or that it doesn't.
 fn guard_at(
     p: &[u32],
@@ -243,8 +254,7 @@ fn sequence_at(
 {
     let left = statement_at(p, r, scope, a, at, nodes, widths, v);
     let right = statement_at(p, r, scope, b, left.at, nodes, widths, left.vars);
-    let to = node_behind(0, right.at, node(37, left.at - 1, right.at - 1, 0), nodes);
-    made(to, right.vars)
+    pair_behind(left.at, right, nodes)
 }
 
 // Left, then right from the variables before the choice, and both joined.
@@ -322,8 +332,7 @@ fn rule_at(
     let action = action_of(p, r, t, Hit::Rule(i));
     let guard = guard_at(p, r, i, false, at, nodes, v);
     let body = statement_at(p, r, action.scope, action.body, guard, nodes, widths, v);
-    let to = node_behind(0, body.at, node(37, guard - 1, body.at - 1, 0), nodes);
-    made(to, body.vars)
+    pair_behind(guard, body, nodes)
 }
 
 // Assume not m, then the rest.
@@ -346,6 +355,5 @@ fn rest_at(
 {
     let guard = guard_at(p, r, i, true, at, nodes, v);
     let rest = chain_at(p, r, t, next(r, t, i), guard, nodes, widths, v);
-    let to = node_behind(0, rest.at, node(37, guard - 1, rest.at - 1, 0), nodes);
-    made(to, rest.vars)
+    pair_behind(guard, rest, nodes)
 }

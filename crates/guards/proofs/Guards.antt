@@ -11,17 +11,15 @@ use Rattle.model.specs.Passive.{Passive, renamedTest, keyTest, keyTests, matchi
 use Rattle.model.specs.Emit.{emitTest, emit}
 use Rattle.model.specs.Demands.{Accepted}
 use Rattle.model.specs.declared.Node.{Node}
-use Rattle.model.proofs.Accepted.{rows, table-fits, rule-fits, accepted-good}
+use Rattle.model.proofs.Accepted.{rows, table-fits, rule-fits}
 use Rattle.blocks.specs.Whole.{Whole}
+use Rattle.blocks.proofs.Accepted.{whole}
 use Rattle.pieces.specs.Pieces.{Behind}
 use Rattle.pieces.proofs.Pieces.{one-behind, two-behind}
 use Rattle.guards.specs.Guards.{masked, OverConstant, guardTest, KeyBehind}
 
 -- what Check accepts has the keys
 module _ (p r : List ℕ) (accepted : Accepted p r) where
-  pub whole : Whole p
-  whole = accepted-good p r accepted .counts .pipelineWords
-
   module _ {i t : ℕ} (h : i < R r) (e : t ≡ tableOf r i) where
     pub table-there : t < T p
     table-there = rw e (rule-fits p r (rows p r accepted) i h .0)
@@ -31,10 +29,10 @@ module _ (p r : List ℕ) (accepted : Accepted p r) where
       pair-asks = let l = table-fits p r (rows p r accepted) t table-there .0 in (h, omega arith)
 
       pub key-asks : Whole p × ((t < T p) × (j < 4))
-      key-asks = (whole, (table-there, pair-asks .1))
+      key-asks = (whole p r accepted, (table-there, pair-asks .1))
 
       pub width-asks : {field wide : ℕ} → field ≡ key p t j → wide ≡ field → Whole p × (wide < F p)
-      width-asks d q = (whole, rw (q, d) (table-fits p r (rows p r accepted) t table-there .1 j k))
+      width-asks d q = (whole p r accepted, rw (q, d) (table-fits p r (rows p r accepted) t table-there .1 j k))
 
 -- one node
 abbrev Own : ℕ → List ℕ → List ℕ → ℕ → ℕ → ℕ → ℕ → ℕ → Type 0

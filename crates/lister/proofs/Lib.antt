@@ -3,3 +3,4 @@ mod Written
 mod Listed
 mod Told
 pub mod Cut
+pub mod Unique

@@ -11,7 +11,7 @@ use Rattle.model.specs.Emit.{Emitted}
 use Rattle.model.specs.Answers.{Answer, done, refused, told, refusalOf, numberIn, valuesIn}
 use Rattle.model.specs.Calls as calls
 use Rattle.model.specs.Calls.{over, written, TwoBlocks, Loads, Passifies}
-use Rattle.model.specs.Listing.{blockRoom, nodeRoom, widthRoom, nodeLines, formText, textOf, listing}
+use Rattle.model.specs.Listing.{blockRoom, nodeRoom, widthRoom, headingText, nodeLines, formText, textOf, listing}
 use Rattle.model.specs.declared.Node.{Node}
 use Rattle.model.specs.declared.Refusal.{Refusal}
 use Rattle.model.specs.declared.Loaded.{Loaded}
@@ -21,7 +21,7 @@ use Rattle.model.proofs.Lists.{length-each, each-at}
 use Rattle.model.proofs.NodeList.{length-words, plainNode-words}
 use Rattle.text.specs.Adds.{Adds}
 use Rattle.text.proofs.Pieces.{follow}
-use Rattle.lister.specs.Lines.{refusedAs, headingText}
+use Rattle.lister.specs.Lines.{refusedAs}
 
 -- ---- areas
 
@@ -61,7 +61,7 @@ record Formed (p r : List ℕ) (n variables : ℕ) (area : List ℕ) : Type 0 wh
   pub room : 4 * n ≤ length area
 
 told-form : (p r nodes nodes′ : List ℕ) (n variables : ℕ) (x : Answer Emitted) → calls.passify p r nodeRoom widthRoom ≡ x
-    → done (n ∷ variables ∷ []) ≡ told (λ w. length (w .nodes) ∷ length (w .widths) ∷ []) x → nodes′ ≡ written x (λ w. words (w .nodes)) nodes
+    → done (n ∷ variables ∷ []) ≡ told calls.formSizes x → nodes′ ≡ written x (λ w. words (w .nodes)) nodes
     → length nodes′ ≡ length nodes → Formed p r n variables nodes′
 told-form p r nodes nodes′ n variables (done w) gives e h same =
     let count : n ≡ length (w .nodes) = cc in
@@ -127,7 +127,7 @@ record Blocks (file : List ℕ) (p r : ℕ) (pipelineArea rulesArea : List ℕ) 
   rulesStand : take r rulesArea ≡ blocks .rules
 
 told-blocks : (file pipeline rules pipeline′ rules′ : List ℕ) (p r : ℕ) (x : Answer TwoBlocks) → calls.load file blockRoom blockRoom ≡ x
-    → done (p ∷ r ∷ []) ≡ told (λ b. length (b .pipeline) ∷ length (b .rules) ∷ []) x
+    → done (p ∷ r ∷ []) ≡ told calls.blockLengths x
     → pipeline′ ≡ written x (λ b. b .pipeline) pipeline → rules′ ≡ written x (λ b. b .rules) rules
     → length pipeline′ ≡ length pipeline → length rules′ ≡ length rules → Blocks file p r pipeline′ rules′
 told-blocks file pipeline rules pipeline′ rules′ p r (done b) gives e h k same also =

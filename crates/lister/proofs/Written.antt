@@ -6,13 +6,13 @@ use mathlib.Core.List.{List, [], _∷_, _++_, append-assoc}
 use lib.ListN.{length, drop, replicate, length-replicate}
 use Rattle.model.specs.Bytes.{decimal}
 use Rattle.model.specs.Answers.{refusalOf, numberIn, valuesIn}
-use Rattle.model.specs.Listing.{space, newline, passiveText, variablesText, conditionText, refusedText, atText, nodeLine, textOf}
+use Rattle.model.specs.Listing.{space, newline, passiveText, variablesText, conditionText, refusedText, atText, nodeLine, textOf, headingText}
 use Rattle.model.specs.declared.Node.{Node}
 use Rattle.model.specs.declared.Refusal.{Refusal}
 use Rattle.text.specs.Adds.{Adds}
 use Rattle.text.proofs.Pieces.{follow}
 use Rattle.text.proofs.Decimals.{decimal-short}
-use Rattle.lister.specs.Lines.{refusedAs, headingText}
+use Rattle.lister.specs.Lines.{refusedAs}
 
 -- an array of zeros
 pub zeros : (n : ℕ) → length (replicate {A = ℕ} n 0) ≡ n

@@ -1,22 +1,15 @@
 -- The lines of the listing program's text, and the room that they take. Assumes nothing: these are definitions.
 use Prim.Native.Nat.{ℕ, _+_, _*_}
-use mathlib.Core.List.{List, _++_}
+use mathlib.Core.List.{List}
 use Rattle.model.specs.Lists.{word}
-use Rattle.model.specs.Bytes.{decimal}
 use Rattle.model.specs.Files.{fileLimit, bytes}
 use Rattle.model.specs.Emit.{Emitted}
 use Rattle.model.specs.Answers.{Answer, refused, numberIn, valuesIn}
-use Rattle.model.specs.Listing.{newline, passiveText, variablesText, conditionText}
 use Rattle.model.specs.declared.Group.{Group}
 
 -- a refusal that is told, as one that refuses a form
 abbrev pub refusedAs : Answer (List ℕ) → Answer Emitted
 refusedAs told = refused (numberIn told) (word (valuesIn told) 0)
-
--- the first line, for n nodes and V variables
-abbrev pub headingText : ℕ → ℕ → List ℕ
-headingText n variables =
-    passiveText ++ decimal n ++ variablesText ++ decimal variables ++ conditionText ++ decimal (3 * n + 1) ++ newline
 
 -- a line is at most so long: five numbers of 64 bits, each with the byte behind it; and so is a text of 2,400 nodes
 abbrev pub lineRoom : ℕ

@@ -1,5 +1,6 @@
 // The text that the listing program prints for a record file. Each line is written behind those before it.
-
+use blocks::NODE;
+use blocks::node_at;
 use model::Loaded;
 use model::Node;
 use model::Passified;
@@ -15,9 +16,9 @@ ghost use Rattle.model.specs.Blocks.{plainNode};
 ghost use Rattle.model.specs.Bytes.{decimal};
 ghost use Rattle.model.specs.Answers.{refusalOf};
 ghost use Rattle.model.specs.Calls.{passify};
-ghost use Rattle.model.specs.Listing.{nodeRoom, widthRoom, nodeLine, nodeLines, textOf, listing};
+ghost use Rattle.model.specs.Listing.{nodeRoom, widthRoom, headingText, nodeLine, nodeLines, textOf, listing};
 ghost use Rattle.text.specs.Adds.{Adds};
-ghost use Rattle.lister.specs.Lines.{refusedAs, headingText, lineRoom, textRoom, readLimit};
+ghost use Rattle.lister.specs.Lines.{refusedAs, lineRoom, textRoom, readLimit};
 
 // A number and the byte behind it.
 fn number(n: u64, last: u8, at: usize, out: &mut [u8]) -> usize
@@ -54,19 +55,6 @@ fn heading(nodes: usize, variables: usize, out: &mut [u8]) -> usize
     number(3 * nodes as u64 + 1, b'\n', at, out)
 }
 
-fn node_at(nodes: &[u32], i: usize) -> Node
-    requires { ⌜ 4 * i + 4 ≤ length (now nodes) ⌝ }
-    ensures { λ n. ⌜ n ≡ plainNode (now (nodes .entry)) i ⌝ }
-{
-    let at = 4 * i;
-    Node {
-        kind: nodes[at],
-        a: nodes[at + 1],
-        b: nodes[at + 2],
-        c: nodes[at + 3],
-    }
-}
-
 // A node's number, kind, a, b, c.
 fn line(i: usize, n: Node, at: usize, out: &mut [u8]) -> usize
     requires { ⌜ at + lineRoom ≤ length (now out) ⌝ }
@@ -89,7 +77,7 @@ fn lines(nodes: &[u32], count: usize, at: usize, out: &mut [u8]) -> usize
     let mut end = at;
     let mut i = 0;
     while i < count {
-        end = line(i, node_at(nodes, i), end, out);
+        end = line(i, node_at(nodes, NODE * i), end, out);
         i += 1;
     }
     end
@@ -114,9 +102,8 @@ fn form(pipeline: &[u32], rules: &[u32], out: &mut [u8]) -> usize
     }
 }
 
-// The whole text, at the start of the area that is lent; the answer is its length.
-pub fn listing(file: &[u8], out: &mut [u8]) -> usize
-    requires { ⌜ textRoom ≤ length (now out) ⌝ }
+// The whole text, at the start of an area that has room for every text; the answer is its length.
+pub fn listing(file: &[u8], out: &mut [u8; 252105]) -> usize
     ensures { λ end. ⌜ Adds (listing (now (file .entry))) 0 (now (out .entry)) end (now (out .exit)) ⌝ }
 {
     let mut pipeline = [0u32; 10000];
@@ -125,12 +112,12 @@ pub fn listing(file: &[u8], out: &mut [u8]) -> usize
         Loaded::Blocks {
             pipeline: p,
             rules: r,
-        } => form(&pipeline[..p], &rules[..r], out),
-        Loaded::Refused(why) => refusal(why, out),
+        } => form(&pipeline[..p], &rules[..r], &mut out[..]),
+        Loaded::Refused(why) => refusal(why, &mut out[..]),
     }
 }
 
-// Zeros for the bytes of a file that decide its text, and for the text.
+// Room for the bytes of a file that decide its text, and for the text.
 pub fn file_area() -> [u8; 40050]
     ensures { λ area. ⌜ length area ≡ readLimit ⌝ }
 {

@@ -10,7 +10,7 @@ fn ended() -> bool {
 fn main() {
     let mut file = lister::file_area();
     let count = io::read_full(0, &mut file);
-    if count < 40050 && !ended() {
+    if count < file.len() && !ended() {
         io::write_all(2, b"listing: standard input could not be read\n");
         return;
     }

@@ -18,7 +18,7 @@ use Rattle.model.specs.Answers as said
 use Rattle.model.specs.Answers.{Answer, done, refused, after, told, refusalOf, yesOrNo}
 use Rattle.model.specs.Refusals.{Row, given, judge, checkRows, conditionRows, evaluateRows, lateRow}
 use Rattle.model.specs.Calls as calls
-use Rattle.model.specs.Calls.{Begins, endValues, wordsInto, lookup, ended, failsWhole, load, check, confirm, passify, condition, evaluate, extract, loadRows, startRows, runRows, passifyRows, extractRows}
+use Rattle.model.specs.Calls.{Begins, endValues, wordsInto, lookup, ended, failsWhole, load, blockLengths, check, confirm, passify, condition, evaluate, extract, loadRows, startRows, runRows, passifyRows, extractRows}
 use Rattle.model.specs.Demands.{One, SamePart, OneAnswer, Demand1}
 use Rattle.model.specs.declared.Refusal.{Refusal}
 use Rattle.model.specs.declared.Part.{Part}
@@ -252,7 +252,7 @@ known-start p r packet = known-append (known-check p r) ((λ i. refl) and (λ i.
 rows-fine : {A : Type 0} (P : A → Type 0) (rows : List Row) (m : Answer A) → Known rows → Fine P m → Fine P (after (judge rows) (λ _. m))
 rows-fine P rows m h k = after-fine Any P (judge rows) (λ _. m) (judge-fine rows h) (λ _ _. k)
 
-load-one : (file : List ℕ) (p r : ℕ) → One (λ x. said.loaded x ≡ told (λ b. length (b .pipeline) ∷ length (b .rules) ∷ []) (load file p r))
+load-one : (file : List ℕ) (p r : ℕ) → One (λ x. said.loaded x ≡ told blockLengths (load file p r))
 unfolding load
 load-one file p r = call speaks-loaded _ (load file p r) (rows-fine _ (loadRows file p r) _ ((λ i. refl) and (λ i. refl) and (λ i. refl) and all) refl)
 

@@ -67,8 +67,12 @@ loadRows file pipelineRoom ruleRoom =
 unfoldable pub load : List ℕ → ℕ → ℕ → Answer TwoBlocks
 load file pipelineRoom ruleRoom = after (judge (loadRows file pipelineRoom ruleRoom)) (λ _. done (blocksOf (held file)))
 
+-- the two blocks' lengths
+abbrev pub blockLengths : TwoBlocks → List ℕ
+blockLengths b = length (b .pipeline) ∷ length (b .rules) ∷ []
+
 pub record Loads (file pipeline rules : List ℕ) (answer : Loaded) (pipeline′ rules′ : List ℕ) : Type 0 where
-  pub answers : said.loaded answer ≡ told (λ b. length (b .pipeline) ∷ length (b .rules) ∷ []) (load file (length pipeline) (length rules))
+  pub answers : said.loaded answer ≡ told blockLengths (load file (length pipeline) (length rules))
   pub pipelineArea : pipeline′ ≡ written (load file (length pipeline) (length rules)) (λ b. b .pipeline) pipeline
   pub rulesArea : rules′ ≡ written (load file (length pipeline) (length rules)) (λ b. b .rules) rules
 
@@ -163,8 +167,12 @@ passifyRows p r nodeRoom widthRoom =
 unfoldable pub passify : List ℕ → List ℕ → ℕ → ℕ → Answer Emitted
 passify p r nodeRoom widthRoom = after (judge (passifyRows p r nodeRoom widthRoom)) (λ _. done (passiveForm p r))
 
+-- n and V
+abbrev pub formSizes : Emitted → List ℕ
+formSizes w = length (w .nodes) ∷ length (w .widths) ∷ []
+
 pub record Passifies (p r nodes widths : List ℕ) (answer : Passified) (nodes′ widths′ : List ℕ) : Type 0 where
-  pub answers : said.passified answer ≡ told (λ w. length (w .nodes) ∷ length (w .widths) ∷ []) (passify p r (length nodes) (length widths))
+  pub answers : said.passified answer ≡ told formSizes (passify p r (length nodes) (length widths))
   pub nodesArea : nodes′ ≡ written (passify p r (length nodes) (length widths)) (λ w. words (w .nodes)) nodes
   pub widthsArea : widths′ ≡ written (passify p r (length nodes) (length widths)) (λ w. w .widths) widths
 

@@ -27,7 +27,7 @@ abbrev pub ends : List ℕ → List ℕ → List ℕ → List ℕ → Answer (Li
 ends p r packet choices = told (λ e. e .how ∷ e .node ∷ e .state .used ∷ e .state .packet) (calls.run p r packet choices plenty)
 
 abbrev pub sizes : List ℕ → List ℕ → Answer (List ℕ)
-sizes p r = told (λ w. length (w .nodes) ∷ length (w .widths) ∷ []) (calls.passify p r plenty plenty)
+sizes p r = told calls.formSizes (calls.passify p r plenty plenty)
 
 abbrev pub condition : List ℕ → List ℕ → Answer (List Node)
 condition p r = after (calls.passify p r plenty plenty) (λ w. calls.condition (words (w .nodes)) (w .widths) plenty)

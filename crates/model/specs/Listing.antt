@@ -50,11 +50,12 @@ nodeLines i [] = []
 nodeLines i (n ∷ ns) = nodeLine i n ++ nodeLines (i + 1) ns
 
 -- n, V and 3n + 1; then the nodes
+abbrev pub headingText : ℕ → ℕ → List ℕ
+headingText n variables =
+    passiveText ++ decimal n ++ variablesText ++ decimal variables ++ conditionText ++ decimal (3 * n + 1) ++ newline
+
 abbrev pub formText : Emitted → List ℕ
-formText w =
-    let n = length (w .nodes) in
-    passiveText ++ decimal n ++ variablesText ++ decimal (length (w .widths)) ++ conditionText ++ decimal (3 * n + 1) ++ newline
-    ++ nodeLines 0 (w .nodes)
+formText w = headingText (length (w .nodes)) (length (w .widths)) ++ nodeLines 0 (w .nodes)
 
 abbrev pub textOf : Answer Emitted → List ℕ
 textOf (done w) = formText w

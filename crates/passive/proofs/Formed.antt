@@ -66,16 +66,16 @@ few-first h e = omega (arith, e)
 -- ---- the whole form
 
 module _ (p r : List ℕ) (accepted : Accepted p r) where
+  abbrev start : Vars
+  start = vars (each (λ i. i) (F p)) (widths p)
+
   -- the fields' widths are the first that stand in the area
   packet-holds : {v : Held} (lent area : List ℕ) → take (F p) (v .current) ≡ each (λ i. i) (F p) → v .next ≡ F p
       → (length (widths p) ≤ length lent → area ≡ over (widths p) lent) → length area ≡ length lent
-      → Holds p lent area v (vars (each (λ i. i) (F p)) (widths p))
+      → Holds p lent area v start
   packet-holds lent area c n w same =
       let long = length-each (width p) (F p) in
       record { current = c; new = n ∙ sym long; widths = w; same = same }
-
-  abbrev start : Vars
-  start = vars (each (λ i. i) (F p)) (widths p)
 
   abbrev whole : Emitted
   whole = passiveForm p r

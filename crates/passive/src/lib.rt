@@ -1,5 +1,6 @@
 // Passify: the passive form of a pipeline that Check accepts. The same calls count, on areas without room, and write.
 use actions::program;
+use blocks::NODE;
 use forms::statement_at;
 use model::Checked;
 use model::Passified;
@@ -69,8 +70,8 @@ fn passify_checked(p: &[u32], r: &[u32], nodes: &mut [u32], widths: &mut [u32]) 
         return Passified::Refused(Refusal::Room(0));
     }
     let count = need.at as usize;
-    if nodes.len() < 4 * count {
-        return Passified::Refused(Refusal::Room(4 * count));
+    if nodes.len() < NODE * count {
+        return Passified::Refused(Refusal::Room(NODE * count));
     }
     let vars = need.vars;
     let variables = vars.next as usize;
@@ -84,7 +85,6 @@ fn passify_checked(p: &[u32], r: &[u32], nodes: &mut [u32], widths: &mut [u32]) 
     }
 }
 
-// Passify.
 pub fn passify(pipeline: &[u32], rules: &[u32], nodes: &mut [u32], widths: &mut [u32]) -> Passified
     ensures { λ a. ⌜ Passifies (now (pipeline .entry)) (now (rules .entry)) (now (nodes .entry)) (now (widths .entry)) a (now (nodes .exit)) (now (widths .exit)) ⌝ }
 {

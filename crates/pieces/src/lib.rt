@@ -44,7 +44,7 @@ pub fn put_words(at: u32, ws: &[u32], out: &mut [u32]) -> u32
         return at;
     }
     put_room(ws, out);
-    at + (ws.len() / 4) as u32
+    at + (ws.len() / blocks::NODE) as u32
 }
 
 pub fn put_node(at: u32, n: Node, out: &mut [u32]) -> u32
@@ -59,7 +59,7 @@ pub fn start(at: u32, to: u32, count: usize) -> usize
     requires { ⌜ at ≤ to ⌝ }
     ensures { λ s. ⌜ Start at to count s ⌝ }
 {
-    let need = 4 * ((to - at) as usize);
+    let need = blocks::NODE * ((to - at) as usize);
     if need <= count { need } else { count }
 }
 

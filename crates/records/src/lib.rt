@@ -268,7 +268,6 @@ fn load_whole(file: &[u8], s: Runs, pipeline: &mut [u32], rules: &mut [u32]) -> 
     }
 }
 
-// Load.
 pub fn load(file: &[u8], pipeline: &mut [u32], rules: &mut [u32]) -> Loaded
     ensures { λ a. ⌜ Loads (now (file .entry)) (now (pipeline .entry)) (now (rules .entry)) a (now (pipeline .exit)) (now (rules .exit)) ⌝ }
 {

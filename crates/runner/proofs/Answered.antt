@@ -29,7 +29,8 @@ use Rattle.model.proofs.First.{once-stop, judge-append}
 use Rattle.model.proofs.Refusals.{clear-judge}
 use Rattle.model.proofs.CallsGive.{start-clear, run-gives, confirm-gives}
 use Rattle.model.proofs.Passing.{told-done, Refuses, told-refuses, passed-on, tells-on}
-use Rattle.actions.proofs.Actions.{few-fields, rule-room, default-room}
+use Rattle.blocks.proofs.Accepted.{few-fields}
+use Rattle.actions.proofs.Actions.{rule-room, default-room}
 use Rattle.values.proofs.Ready.{ready}
 use Rattle.tables.specs.Fitting.{Fitting}
 use Rattle.tables.proofs.Fitting.{fitting}

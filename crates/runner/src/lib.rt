@@ -92,7 +92,6 @@ fn three(ws: &[u32], at: usize) -> &[u32]
     &ws[at..end]
 }
 
-// Lookup.
 pub fn lookup<'a>(pipeline: &'a [u32], rules: &'a [u32], packet: &[u32], table: u32) -> &'a [u32]
     ensures { λ x. ⌜ LooksUp (pipeline .entry) (rules .entry) (now (packet .entry)) table x ⌝ }
 {
@@ -158,7 +157,6 @@ fn run_started(p: &[u32], r: &[u32], packet: &[u32], choices: &[u32], end: &mut 
     finish(p, run_whole(p, r, packet, choices), end)
 }
 
-// Run.
 pub fn run(pipeline: &[u32], rules: &[u32], packet: &[u32], choices: &[u32], end: &mut [u32]) -> Ran
     ensures { λ a. ⌜ Runs (now (pipeline .entry)) (now (rules .entry)) (now (packet .entry)) (now (choices .entry)) (now (end .entry)) a (now (end .exit)) ⌝ }
 {
@@ -191,7 +189,6 @@ fn judged(e: End, count: usize) -> Confirmed
     }
 }
 
-// Confirm.
 pub fn confirm(pipeline: &[u32], rules: &[u32], packet: &[u32], choices: &[u32]) -> Confirmed
     ensures { λ a. ⌜ Confirms (now (pipeline .entry)) (now (rules .entry)) (now (packet .entry)) (now (choices .entry)) a ⌝ }
 {

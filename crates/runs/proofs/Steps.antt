@@ -12,7 +12,7 @@ use types.Run.{OneOf}
 use lib.Dec.{eqb, ltb}
 use lib.ListN.{length, drop-of-length-le}
 use Rattle.model.specs.Lists.{if_then_else_, word}
-use Rattle.model.specs.Blocks.{F, N, T, R, widths}
+use Rattle.model.specs.Blocks.{N, T, R, widths}
 use Rattle.model.specs.Trees.{Stmt, asValue, asTest, asStatement, tree, truthOf, bitsIn}
 use Rattle.model.specs.Tables.{hit, callOf}
 use Rattle.model.specs.Good.{Within, Good, GoodTest}
@@ -26,8 +26,9 @@ use Rattle.model.proofs.Kind as kinds-type
 use Rattle.actions.specs.declared.Action.{Action}
 use Rattle.actions.specs.declared.Scope.{Scope}
 use Rattle.actions.specs.Scopes.{IsStatement, Calls, tablesIn}
-use Rattle.actions.proofs.Read.{Read, treeIs, children, is, good-by, below-fields, sequence-pair, choice-pair, outside, is-skip}
-use Rattle.actions.proofs.Actions.{few-fields, called-is, body-below, body-good}
+use Rattle.actions.proofs.Read.{Read, treeIs, children, is, good-by, first-below, sequence-pair, choice-pair, outside, is-skip}
+use Rattle.blocks.proofs.Accepted.{few-fields}
+use Rattle.actions.proofs.Actions.{called-is, body-statement}
 use Rattle.values.proofs.Ready.{ready}
 use Rattle.values.proofs.Tags.{skips}
 use Rattle.states.specs.declared.State.{State as Held}
@@ -81,15 +82,11 @@ module _ {p r : List ℕ} {scope : Scope} {s : Held} {n t : ℕ} {node : Node} {
   unfolding Good
   assign-asks e = (omega (arith, children (h .read) _ e .1, h .read .statement .below), good-by (h .read) _ e)
 
-  pub havoc-asks : kind ≡ Kind.Havoc → a < F p
-  unfolding Good
-  havoc-asks e = below-fields (h .read) (good-by (h .read) _ e)
-
   -- assume and assert are tests: what both ask
   module _ (k : Kind) (first : BeforeAll n k a b (node .c) → a < n)
       (good-test : Good (widths p) (tablesIn (scope .inside) p) (asStatement (treeIs (h .read) k)) → GoodTest (widths p) (asTest (tree p (scope .given) a))) where
     tested-asks : kind ≡ k → (a < N p) × GoodTest (widths p) (asTest (tree p (scope .given) a))
-    tested-asks e = (omega (arith, first (children (h .read) k e), h .read .statement .below), good-test (good-by (h .read) k e))
+    tested-asks e = (first-below (h .read) k e first, good-test (good-by (h .read) k e))
 
   pub assume-asks : kind ≡ Kind.Assume → (a < N p) × GoodTest (widths p) (asTest (tree p (scope .given) a))
   unfolding Good
@@ -115,12 +112,9 @@ module _ {p r : List ℕ} {scope : Scope} {s : Held} {n t : ℕ} {node : Node} {
     module _ (x : Action) (c : Calls p x (callOf p r a (hit p r (packetIn p s) a))) where
       pub body-asks : Ask p r (x .scope) s t (x .body)
       body-asks =
-          let l = body-below p r accepted apply-asks rules-below x c in
-          let g = body-good p r accepted apply-asks rules-below x c in
-          let k : depth (scope .inside) p n ≡ N p + n = ap (λ (i : Bool). depth i p n) (outside (h .read) e .0) in (
-            rw (c .inside) (omega (arith, l, k, h .start)),
-            record { statement = record { accepted = accepted; below = l; good = rw (c .inside) g }; within = h .within },
-          )
+          let body = body-statement p r accepted apply-asks rules-below x c in
+          let k : depth (scope .inside) p n ≡ N p + n = ap (λ (i : Bool). depth i p n) (outside (h .read) e .0) in
+          (rw (c .inside) (omega (arith, body .below, k, h .start)), record { statement = body; within = h .within })
 
   -- ---- what the arms give
 

@@ -1,13 +1,14 @@
 -- What is emitted behind both sides of a choice. Assumes nothing: these are definitions.
 use Prim.Native.Nat.{ℕ, _-_, _≤_}
-use mathlib.Core.List.{List, [], _∷_, _++_}
-use Rattle.model.specs.Blocks.{widths, node}
-use Rattle.model.specs.Passive.{Vars, vars, next, newWhereDiffers, joinedVars, newWidths, equations}
-use Rattle.model.specs.Emit.{past, formLimit, emitEquations}
+use mathlib.Core.List.{List, _++_}
+use Rattle.model.specs.Blocks.{widths}
+use Rattle.model.specs.Passive.{Vars, vars, next, newWhereDiffers, joinedVars, newWidths}
+use Rattle.model.specs.Emit.{past, formLimit}
 use Rattle.model.specs.declared.Node.{Node}
 use Rattle.pieces.specs.Pieces.{Emitted}
 use Rattle.variables.specs.declared.Made.{Made}
 use Rattle.variables.specs.Variables.{Holds}
+use Rattle.variables.specs.Sides.{choiceNodes}
 
 -- the variables of the fields after a choice, and all variables then
 abbrev pub joinedOf : Vars → Vars → Vars → List ℕ
@@ -18,11 +19,7 @@ afterJoin p before l r = let zs = joinedOf before l r in vars zs (r .widths ++ n
 
 -- the left's equations, then the right's, then the choice: `left` and `right` are the numbers behind the two sides
 unfoldable pub joinNodes : Vars → Vars → Vars → ℕ → ℕ → List Node
-joinNodes before l r left right =
-    let zs = joinedOf before l r in
-    let x = emitEquations (equations (l .current) zs) (left - 1) right in
-    let y = emitEquations (equations (r .current) zs) (right - 1) (past right (x .nodes)) in
-    x .nodes ++ (y .nodes ++ (node 38 (x .side) (y .side) 0 ∷ []))
+joinNodes before l r left right = choiceNodes (l .current) (r .current) (joinedOf before l r) (left - 1) (right - 1) right
 
 -- They were emitted behind the right side, whose number `right` is, and the variables are joined. The areas were `nodes` and `lent`, and are
 -- `nodes′` and `widths′`.

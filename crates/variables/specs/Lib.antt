@@ -1,3 +1,3 @@
 pub mod Variables
-pub mod Joined
 pub mod Sides
+pub mod Joined

@@ -1,6 +1,7 @@
 -- `actions::action_of` meets its contract. Assumes nothing.
 use borrow.Author.Needs.{needs}
-use Rattle.actions.proofs.Actions.{whole, rule-below, rule-room, rule-action, rule-calls, default-room, default-action, default-calls}
+use Rattle.blocks.proofs.Accepted.{whole}
+use Rattle.actions.proofs.Actions.{rule-below, rule-room, rule-action, rule-calls, default-room, default-action, default-calls}
 use Rattle.actions.proofs.action_of.Statement.{statement}
 use Rattle.actions.proofs.action_of.Tie as tie
 

@@ -2,13 +2,14 @@
 -- Assumes nothing.
 use Prim.Native.Nat.{ℕ, _<_}
 use Rattle.forms.proofs.Writes.{beyond-writes, sequence-writes, choice-writes}
-use Rattle.forms.proofs.Steps.{chainDepth, pairDepth, restDepth, ruleDepth, statementDepth, left-asks, right-asks, body-asks, body-is, same-rule, no-rule, next-of-table, chain-below, chain-is, of-rule, rule-asks, rest-asks, default-is, Here, limit-holds, well, narrow, assign-asks, havoc-asks, assume-asks, assert-asks, sequence-asks, choice-asks, apply-asks, assign-is, havoc-is, sequence-is, choice-is, apply-is, assume-gives, assert-gives, rest-gives}
+use Rattle.forms.proofs.Steps.{chainDepth, pairDepth, restDepth, ruleDepth, statementDepth, left-asks, right-asks, body-asks, body-is, same-rule, no-rule, next-of-table, chain-below, chain-is, of-rule, rule-asks, rest-asks, default-is, Here, limit-holds, well, narrow, assign-asks, assume-asks, assert-asks, sequence-asks, choice-asks, apply-asks, assign-is, havoc-is, sequence-is, choice-is, apply-is, assume-gives, assert-gives, rest-gives}
 use native.Mathlib.Omega.{arith}
 use mathlib.Core.Path.{_∙_}
 use mathlib.Core.List.{[]}
 use Rattle.model.specs.Passive.{Origin}
 use Rattle.model.specs.declared.Hit.{Hit}
-use Rattle.actions.proofs.Actions.{whole, few-fields}
+use Rattle.actions.proofs.Read.{havoc-field}
+use Rattle.blocks.proofs.Accepted.{whole, few-fields}
 use borrow.Author.Needs.{needs}
 use borrow.Fn.Kinds.{In}
 use borrow.Fn.PlainCycle.{Measures, is, falls, and}
@@ -43,8 +44,7 @@ use Rattle.forms.proofs.made.Reads as made-reads
 use Rattle.tables.proofs.next.Reads as next-reads
 use Rattle.forms.proofs.skip_at.Reads as skip-at-reads
 use Rattle.forms.proofs.tested_at.Reads as tested-at-reads
-use Rattle.pieces.proofs.node.Reads as node-reads′
-use Rattle.pieces.proofs.node_behind.Reads as node-behind-reads
+use Rattle.forms.proofs.pair_behind.Reads as pair-behind-reads
 use Rattle.forms.proofs.+chain_at+choice_at+rest_at+rule_at+sequence_at+statement_at.{
   statement,
 }
@@ -123,13 +123,13 @@ abbrev choice-at-calls : ℕ → choice-at-lts.Claims
 choice-at-calls t = (statement-at-below t, statement-at.Post, beside-reads.Asked, beside-reads.Learnt, join-behind-reads.Asked, join-behind-reads.Learnt)
 
 abbrev rest-at-calls : ℕ → rest-at-lts.Claims
-rest-at-calls t = (guard-at-reads.Asked, guard-at-reads.Learnt, next-reads.Asked, next-reads.Learnt, chain-at-below t, chain-at.Post, node-reads′.Asked, node-reads′.Learnt, node-behind-reads.Asked, node-behind-reads.Learnt, made-reads.Asked, made-reads.Learnt)
+rest-at-calls t = (guard-at-reads.Asked, guard-at-reads.Learnt, next-reads.Asked, next-reads.Learnt, chain-at-below t, chain-at.Post, pair-behind-reads.Asked, pair-behind-reads.Learnt)
 
 abbrev rule-at-calls : ℕ → rule-at-lts.Claims
-rule-at-calls t = (action-of-reads.Asked, action-of-reads.Learnt, guard-at-reads.Asked, guard-at-reads.Learnt, statement-at-below t, statement-at.Post, node-reads′.Asked, node-reads′.Learnt, node-behind-reads.Asked, node-behind-reads.Learnt, made-reads.Asked, made-reads.Learnt)
+rule-at-calls t = (action-of-reads.Asked, action-of-reads.Learnt, guard-at-reads.Asked, guard-at-reads.Learnt, statement-at-below t, statement-at.Post, pair-behind-reads.Asked, pair-behind-reads.Learnt)
 
 abbrev sequence-at-calls : ℕ → sequence-at-lts.Claims
-sequence-at-calls t = (statement-at-below t, statement-at.Post, node-reads′.Asked, node-reads′.Learnt, node-behind-reads.Asked, node-behind-reads.Learnt, made-reads.Asked, made-reads.Learnt)
+sequence-at-calls t = (statement-at-below t, statement-at.Post, pair-behind-reads.Asked, pair-behind-reads.Learnt)
 
 abbrev statement-at-calls : ℕ → statement-at-lts.Claims
 statement-at-calls t = (made-reads.Asked, made-reads.Learnt, node-reads.Asked, node-reads.Learnt, kind-in-reads.Asked, kind-in-reads.Learnt, assign-at-reads.Asked, assign-at-reads.Learnt, havoc-at-reads.Asked, havoc-at-reads.Learnt, tested-at-reads.Asked, tested-at-reads.Learnt, sequence-at-below t, sequence-at.Post, choice-at-below t, choice-at.Post, rule-count-reads.Asked, rule-count-reads.Learnt, next-reads.Asked, next-reads.Learnt, chain-at-below t, chain-at.Post, skip-at-reads.Asked, skip-at-reads.Learnt)
@@ -174,37 +174,25 @@ pub +chain-at+choice-at+rest-at+rule-at+sequence-at+statement-at-spec : {M : Typ
     (λ c κs. let s = c .before .before .before .before .before in (s .pre .1 .0, (s .pre .1 .1 .1 .0 .0, s .pre .1 .1 .1 .1)))  -- guard-at-requires
     (λ c κs. search needs)  -- next-requires
     (λ c κs. let s = c .before .before .before .before .before .before .before .before .before .before .before in (chain-below (s .args .p .now) (s .args .r .now) (s .args .t) (s .args .i) (s .pre .1 .1 .1 .0) (s .pre .0) (c .before .before .next .ensures), (s .pre .1 .0, (s .pre .1 .1 .0, (next-of-table _ _ _ (c .before .before .next .ensures), c .before .before .before .before .before .guard-at .ensures [] .bound)))))  -- chain-at-requires
-    (λ c. c .before .before .before .before .before .before .before .before .before .before .guard-at .ensures [] .some)  -- sub-node
-    (λ c. c .before .before .before .before .before .chain-at .ensures .some)  -- sub-node-2
-    (λ c κs. search needs)  -- node-requires
-    (λ c κs. search needs)  -- node-behind-requires
-    (λ c κs. search needs)  -- made-requires
-    (λ c. (c .before .before .before .node-behind .kept .1 .1 .1 .0) ∙ (c .before .before .before .before .before .before .before .before .before .before .before .chain-at .kept .1 .1 .1 .1 .1 .0) ∙ (c .before .before .before .before .before .before .before .before .before .before .before .before .before .before .before .before .before .guard-at .kept .1 .1 .1 .1 .1 .0))  -- same-length
-    (λ c. (c .before .before .before .before .before .before .before .before .before .before .before .chain-at .kept .1 .1 .1 .1 .1 .1 .0))  -- same-length-2
-    (λ c. let s = c .before .before .before .before .before .before .before .before .before .before .before .before .before .before .before .before .before .before .before .before .before .before .before in sequence-writes (c .before .before .before .before .before .before .before .before .before .before .before .before .before .before .before .before .before .guard-at .ensures (s .args .widths .now)) (c .before .before .before .before .before .before .before .before .before .before .before .before .before .before .before .before .before .guard-at .kept .1 .1 .1 .1 .1 .0) (rw (c .before .before .before .before .before .before .before .before .before .before .before .before .before .before .next .ensures) at (c .before .before .before .before .before .before .before .before .before .before .before .chain-at .ensures)) (c .before .before .before .before .before .before .before .before .before .before .before .chain-at .kept .1 .1 .1 .1 .1 .0) (rw (c .before .before .before .before .before .node .ensures) at (c .before .before .before .node-behind .ensures .0)) (c .made .ensures)))  -- returns
+    (λ c κs. (c .before .before .before .before .before .before .before .before .before .before .before .guard-at .ensures [] .some, c .before .before .before .before .before .chain-at .ensures .some))  -- pair-behind-requires
+    (λ c. (c .before .before .pair-behind .kept .1 .1 .0) ∙ (c .before .before .before .before .before .before .before .before .chain-at .kept .1 .1 .1 .1 .1 .0) ∙ (c .before .before .before .before .before .before .before .before .before .before .before .before .before .before .guard-at .kept .1 .1 .1 .1 .1 .0))  -- same-length
+    (λ c. c .before .before .before .before .before .before .before .before .chain-at .kept .1 .1 .1 .1 .1 .1 .0)  -- same-length-2
+    (λ c. let s = c .before .before .before .before .before .before .before .before .before .before .before .before .before .before .before .before .before .before .before .before in sequence-writes (c .before .before .before .before .before .before .before .before .before .before .before .before .before .before .guard-at .ensures (s .args .widths .now)) (c .before .before .before .before .before .before .before .before .before .before .before .before .before .before .guard-at .kept .1 .1 .1 .1 .1 .0) (rw (c .before .before .before .before .before .before .before .before .before .before .before .next .ensures) at (c .before .before .before .before .before .before .before .before .chain-at .ensures)) (c .before .before .before .before .before .before .before .before .chain-at .kept .1 .1 .1 .1 .1 .0) (c .before .before .pair-behind .ensures .0) (c .before .before .pair-behind .ensures .1)))  -- returns
     (λ t. rule-at-lts.spec (rule-at-calls t) (rule-at-at t) rule-at.Post
     (λ c κs. let s = c .before .before .before .before in (s .pre .1 .0, (s .pre .1 .1 .0, same-rule (s .args .r .now) (s .pre .1 .1 .1 .0))))  -- action-of-requires
     (λ c κs. let s = c .before .before .before .before .before .before in (s .pre .1 .0, (s .pre .1 .1 .1 .0, s .pre .1 .1 .1 .1)))  -- guard-at-requires
     (λ c κs. let s = c .before .before .before .before .before .before .before .before .before .before .before in body-asks (s .args .p .now) (s .args .r .now) (s .pre .1 .0) (s .pre .1 .1 .0) (Hit.Rule (s .args .i)) (same-rule (s .args .r .now) (s .pre .1 .1 .1 .0)) (c .before .before .before .before .before .before .action-of .result) (c .before .before .before .before .before .before .action-of .ensures) (omega (arith, s .pre .0)) (c .before .before .before .before .guard-at .ensures [] .bound))  -- statement-at-requires
-    (λ c. c .before .before .before .before .before .before .before .before .before .guard-at .ensures [] .some)  -- sub-node
-    (λ c. c .before .before .before .before .before .statement-at .ensures .some)  -- sub-node-2
-    (λ c κs. search needs)  -- node-requires
-    (λ c κs. search needs)  -- node-behind-requires
-    (λ c κs. search needs)  -- made-requires
-    (λ c. (c .before .before .before .node-behind .kept .1 .1 .1 .0) ∙ (c .before .before .before .before .before .before .before .before .before .before .before .statement-at .kept .1 .1 .1 .1 .1 .0) ∙ (c .before .before .before .before .before .before .before .before .before .before .before .before .before .before .before .before .guard-at .kept .1 .1 .1 .1 .1 .0))  -- same-length
-    (λ c. (c .before .before .before .before .before .before .before .before .before .before .before .statement-at .kept .1 .1 .1 .1 .1 .1 .0))  -- same-length-2
-    (λ c. let s = c .before .before .before .before .before .before .before .before .before .before .before .before .before .before .before .before .before .before .before .before .before .before .before in sequence-writes (c .before .before .before .before .before .before .before .before .before .before .before .before .before .before .before .before .guard-at .ensures (s .args .widths .now)) (c .before .before .before .before .before .before .before .before .before .before .before .before .before .before .before .before .guard-at .kept .1 .1 .1 .1 .1 .0) (rw (body-is (s .args .p .now) (s .args .r .now) (s .pre .1 .0) (s .pre .1 .1 .0) (Hit.Rule (s .args .i)) (same-rule (s .args .r .now) (s .pre .1 .1 .1 .0)) (c .before .before .before .before .before .before .before .before .before .before .before .before .before .before .before .before .before .before .action-of .result) (c .before .before .before .before .before .before .before .before .before .before .before .before .before .before .before .before .before .before .action-of .ensures)) at (c .before .before .before .before .before .before .before .before .before .before .before .statement-at .ensures)) (c .before .before .before .before .before .before .before .before .before .before .before .statement-at .kept .1 .1 .1 .1 .1 .0) (rw (c .before .before .before .before .before .node .ensures) at (c .before .before .before .node-behind .ensures .0)) (c .made .ensures)))  -- returns
+    (λ c κs. (c .before .before .before .before .before .before .before .before .before .before .guard-at .ensures [] .some, c .before .before .before .before .before .statement-at .ensures .some))  -- pair-behind-requires
+    (λ c. (c .before .before .pair-behind .kept .1 .1 .0) ∙ (c .before .before .before .before .before .before .before .before .statement-at .kept .1 .1 .1 .1 .1 .0) ∙ (c .before .before .before .before .before .before .before .before .before .before .before .before .before .guard-at .kept .1 .1 .1 .1 .1 .0))  -- same-length
+    (λ c. c .before .before .before .before .before .before .before .before .statement-at .kept .1 .1 .1 .1 .1 .1 .0)  -- same-length-2
+    (λ c. let s = c .before .before .before .before .before .before .before .before .before .before .before .before .before .before .before .before .before .before .before .before in sequence-writes (c .before .before .before .before .before .before .before .before .before .before .before .before .before .guard-at .ensures (s .args .widths .now)) (c .before .before .before .before .before .before .before .before .before .before .before .before .before .guard-at .kept .1 .1 .1 .1 .1 .0) (rw (body-is (s .args .p .now) (s .args .r .now) (s .pre .1 .0) (s .pre .1 .1 .0) (Hit.Rule (s .args .i)) (same-rule (s .args .r .now) (s .pre .1 .1 .1 .0)) (c .before .before .before .before .before .before .before .before .before .before .before .before .before .before .before .action-of .result) (c .before .before .before .before .before .before .before .before .before .before .before .before .before .before .before .action-of .ensures)) at (c .before .before .before .before .before .before .before .before .statement-at .ensures)) (c .before .before .before .before .before .before .before .before .statement-at .kept .1 .1 .1 .1 .1 .0) (c .before .before .pair-behind .ensures .0) (c .before .before .pair-behind .ensures .1)))  -- returns
     (λ t. sequence-at-lts.spec (sequence-at-calls t) (sequence-at-at t) sequence-at.Post
     (λ c κs. let s = c .before .before .before .before .before .before in left-asks (s .args .p .now) (s .args .r .now) (s .args .scope) (s .args .a) (s .args .b) (s .pre .0) (s .pre .1 .1 .1) (s .pre .1 .0))  -- statement-at-requires
     (λ c κs. let s = c .before .before .before .before .before .before .before .before .before .before .before .before .before in right-asks (s .args .p .now) (s .args .r .now) (s .args .scope) (s .args .a) (s .args .b) (s .pre .0) (c .before .before .before .before .before .before .statement-at .ensures .bound) (s .pre .1 .1 .0))  -- statement-at-requires-2
-    (λ c. c .before .before .before .before .before .before .before .before .before .before .before .before .statement-at .ensures .some)  -- sub-node
-    (λ c. c .before .before .before .before .before .before .statement-at2 .ensures .some)  -- sub-node-2
-    (λ c κs. search needs)  -- node-requires
-    (λ c κs. search needs)  -- node-behind-requires
-    (λ c κs. search needs)  -- made-requires
-    (λ c. (c .before .before .before .node-behind .kept .1 .1 .1 .0) ∙ (c .before .before .before .before .before .before .before .before .before .before .before .before .statement-at2 .kept .1 .1 .1 .1 .1 .0) ∙ (c .before .before .before .before .before .before .before .before .before .before .before .before .before .before .before .before .before .before .before .statement-at .kept .1 .1 .1 .1 .1 .0))  -- same-length
-    (λ c. (c .before .before .before .before .before .before .before .before .before .before .before .before .statement-at2 .kept .1 .1 .1 .1 .1 .1 .0) ∙ (c .before .before .before .before .before .before .before .before .before .before .before .before .before .before .before .before .before .before .before .statement-at .kept .1 .1 .1 .1 .1 .1 .0))  -- same-length-2
-    (λ c. sequence-writes (c .before .before .before .before .before .before .before .before .before .before .before .before .before .before .before .before .before .before .before .statement-at .ensures) (c .before .before .before .before .before .before .before .before .before .before .before .before .before .before .before .before .before .before .before .statement-at .kept .1 .1 .1 .1 .1 .0) (c .before .before .before .before .before .before .before .before .before .before .before .before .statement-at2 .ensures) (c .before .before .before .before .before .before .before .before .before .before .before .before .statement-at2 .kept .1 .1 .1 .1 .1 .0) (rw (c .before .before .before .before .before .node .ensures) at (c .before .before .before .node-behind .ensures .0)) (c .made .ensures)))  -- returns
+    (λ c κs. (c .before .before .before .before .before .before .before .before .before .before .before .before .statement-at .ensures .some, c .before .before .before .before .before .statement-at2 .ensures .some))  -- pair-behind-requires
+    (λ c. (c .before .before .pair-behind .kept .1 .1 .0) ∙ (c .before .before .before .before .before .before .before .before .statement-at2 .kept .1 .1 .1 .1 .1 .0) ∙ (c .before .before .before .before .before .before .before .before .before .before .before .before .before .before .before .statement-at .kept .1 .1 .1 .1 .1 .0))  -- same-length
+    (λ c. (c .before .before .before .before .before .before .before .before .statement-at2 .kept .1 .1 .1 .1 .1 .1 .0) ∙ (c .before .before .before .before .before .before .before .before .before .before .before .before .before .before .before .statement-at .kept .1 .1 .1 .1 .1 .1 .0))  -- same-length-2
+    (λ c. sequence-writes (c .before .before .before .before .before .before .before .before .before .before .before .before .before .before .before .statement-at .ensures) (c .before .before .before .before .before .before .before .before .before .before .before .before .before .before .before .statement-at .kept .1 .1 .1 .1 .1 .0) (c .before .before .before .before .before .before .before .before .statement-at2 .ensures) (c .before .before .before .before .before .before .before .before .statement-at2 .kept .1 .1 .1 .1 .1 .0) (c .before .before .pair-behind .ensures .0) (c .before .before .pair-behind .ensures .1)))  -- returns
     (λ t. statement-at-lts.spec (statement-at-calls t) (statement-at-at t) statement-at.Post
     (λ c κs. search needs)  -- made-requires
     (λ c. rw (c .made .ensures) (beyond-writes _ _ (search needs)))  -- returns
@@ -215,7 +203,7 @@ pub +chain-at+choice-at+rest-at+rule-at+sequence-at+statement-at-spec : {M : Typ
     (λ c. search needs)  -- enum-told
     (λ c κs. let h = here t (c .before .before .before .before .before .before) in let q = assign-asks h (c .before .before .before .before .enum-told .given .1) in (well h, (narrow h, (q .0, (q .1 .0, (q .1 .1, (limit-holds (c .before .before .before .before .before .before .before .before .before .before .if1 .left), h .bound (limit-holds (c .before .before .before .before .before .before .before .before .before .before .if1 .left)))))))))  -- assign-at-requires
     (λ c. search needs)  -- enum-told-2
-    (λ c κs. let h = here t (c .before .before .before .before) in (well h .whole, (narrow h, (havoc-asks h (c .before .before .enum-told2 .given .1), (limit-holds (c .before .before .before .before .before .before .before .before .if1 .left), h .bound (limit-holds (c .before .before .before .before .before .before .before .before .if1 .left)))))))  -- havoc-at-requires
+    (λ c κs. let h = here t (c .before .before .before .before) in (well h .whole, (narrow h, (havoc-field (h .read) (c .before .before .enum-told2 .given .1), (limit-holds (c .before .before .before .before .before .before .before .before .if1 .left), h .bound (limit-holds (c .before .before .before .before .before .before .before .before .if1 .left)))))))  -- havoc-at-requires
     (λ c. search needs)  -- enum-told-3
     (λ c κs. let h = here t (c .before .before .before .before .before) in let q = assume-asks h (c .before .before .before .enum-told3 .given .1) in (well h, (narrow h, (q .0, (q .1, h .bound)))))  -- tested-at-requires
     (λ c. search needs)  -- enum-told-4

@@ -1,6 +1,6 @@
 -- `forms::guard_at` meets its contract. Assumes nothing.
 use borrow.Author.Needs.{needs}
-use Rattle.actions.proofs.Actions.{whole, few-fields}
+use Rattle.blocks.proofs.Accepted.{whole, few-fields}
 use Rattle.forms.proofs.Writes.{guard-writes}
 use Rattle.forms.proofs.guard_at.Statement.{statement}
 use Rattle.forms.proofs.guard_at.Tie as tie

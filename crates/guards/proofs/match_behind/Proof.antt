@@ -3,7 +3,8 @@ use Prim.Native.Nat.{_-_}
 use native.Mathlib.Omega.{arith}
 use mathlib.Core.Path.{_∙_}
 use borrow.Author.Needs.{needs}
-use Rattle.guards.proofs.Guards.{whole, table-there, Matched, begins, goes-on, ends}
+use Rattle.blocks.proofs.Accepted.{whole}
+use Rattle.guards.proofs.Guards.{table-there, Matched, begins, goes-on, ends}
 use Rattle.guards.proofs.match_behind.Statement.{statement}
 use Rattle.guards.proofs.match_behind.Tie as tie
 

@@ -15,6 +15,7 @@ abbrev μ-loop : tie.MeasureT-loop
 pub lines-spec : {M : Type 1} → statement M
 lines-spec = tie.close (tie.spec Inv-loop μ-loop
     (λ c. begins _ _ _ _ (search needs))  -- loop-holds
+    (λ c. search needs)  -- mul-node-at
     (λ c κs. search needs)  -- node-at-requires
     (λ c κs. search (needs, line-room))  -- line-requires
     (λ c. search needs)  -- add-i

@@ -17,7 +17,5 @@ listing-spec = tie.close (tie.spec
     (λ c κs. search needs)  -- form-requires
     (λ c. search needs)  -- enum-known-why
     (λ c κs. search needs)  -- refusal-requires
-    (λ c. search needs)  -- same-length
     (λ c. search (needs, listed))  -- returns
-    (λ c. search needs)  -- same-length-2
     (λ c. search (needs, load-refused)))  -- returns-2

@@ -3,6 +3,7 @@ use native.Mathlib.Omega.{arith}
 use mathlib.Core.Path.{sym}
 use borrow.Author.Needs.{needs}
 use lib.Seq.{length-take-le}
+use Rattle.text.proofs.Pieces.{same-length}
 use Rattle.listing.proofs.main.Statement.{statement}
 use Rattle.listing.proofs.main.Tie as tie
 
@@ -18,10 +19,9 @@ main-spec = tie.close (tie.spec
     (λ c κs. search needs)  -- text-area-requires
     (λ c. search needs)  -- array-share-prefix-file
     (λ c. search needs)  -- slice-aggregate-listing
-    (λ c. search needs)  -- slice-aggregate-listing-2
     (λ c κs. search needs)  -- listing-requires
-    (λ c. search needs)  -- array-share-prefix-text
-    (λ c. let h = c .before .before .listing in sym (length-take-le _ _ (omega (arith, h .ensures .room, h .kept .1 .0))))  -- slice-aggregate-write-all-2
+    (λ c. let h = c .listing .ensures in omega (arith, h .room, same-length h))  -- array-share-prefix-text
+    (λ c. let h = c .before .listing .ensures in sym (length-take-le _ _ (omega (arith, h .room, same-length h))))  -- slice-aggregate-write-all-2
     (λ c κs. search needs)  -- write-all-requires-2
     (λ c. search needs)  -- slice-aggregate-write-all-3
     (λ c κs. search needs)  -- write-all-requires-3

@@ -1,6 +1,7 @@
 -- `passive::form_in` meets its contract. Assumes nothing.
 use borrow.Author.Needs.{needs}
-use Rattle.actions.proofs.Actions.{whole, few-fields, root-statement}
+use Rattle.blocks.proofs.Accepted.{whole, few-fields}
+use Rattle.actions.proofs.Actions.{root-statement}
 use Rattle.passive.proofs.Formed.{few-first, form-counts, form-leaves}
 use Rattle.passive.proofs.form_in.Statement.{statement}
 use Rattle.passive.proofs.form_in.Tie as tie

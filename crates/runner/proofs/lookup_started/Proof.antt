@@ -1,5 +1,5 @@
 -- `runner::lookup_started` meets its contract. Assumes nothing.
-use Rattle.actions.proofs.Actions.{whole}
+use Rattle.blocks.proofs.Accepted.{whole}
 use Rattle.states.proofs.Actions.{hit-there}
 use Rattle.runner.proofs.Answered.{lends, no-table, table-below, rule-found, default-found, rule-inside, default-inside}
 use borrow.Author.Needs.{needs}

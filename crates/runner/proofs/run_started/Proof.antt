@@ -1,5 +1,5 @@
 -- `runner::run_started` meets its contract. Assumes nothing.
-use Rattle.actions.proofs.Actions.{whole}
+use Rattle.blocks.proofs.Accepted.{whole}
 use Rattle.runner.proofs.Answered.{room-refuses, room-there, stands-end, run-finishes}
 use borrow.Author.Needs.{needs}
 use Rattle.runner.proofs.run_started.Statement.{statement}

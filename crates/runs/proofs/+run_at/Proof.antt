@@ -3,8 +3,9 @@ use Prim.Native.Nat.{ℕ, _<_}
 use borrow.Author.Needs.{needs}
 use borrow.Fn.Kinds.{In}
 use borrow.Fn.PlainCycle.{Measures, is, falls, and}
-use Rattle.actions.proofs.Actions.{whole}
-use Rattle.runs.proofs.Steps.{depth, Here, accepted, stands, assign-asks, havoc-asks, assume-asks, assert-asks, left-asks, right-asks, side-fits, side-asks, apply-asks, body-asks, arm-gives}
+use Rattle.actions.proofs.Read.{havoc-field}
+use Rattle.blocks.proofs.Accepted.{whole}
+use Rattle.runs.proofs.Steps.{depth, Here, accepted, stands, assign-asks, assume-asks, assert-asks, left-asks, right-asks, side-fits, side-asks, apply-asks, body-asks, arm-gives}
 use Rattle.runs.proofs.run_at.Reads as run-at
 use Rattle.runs.proofs.run_at.Kinds as run-at-kinds
 use Rattle.runs.proofs.+run_at.Lts-run_at as lts
@@ -56,7 +57,7 @@ pub +run-at-spec : {M : Type 1} → statement M
     (λ c. search needs)  -- enum-told
     (λ c κs. let h = here t (c .before .before .before .before) in (stands h, assign-asks h (c .before .before .enum-told .given .1)))  -- assign-requires
     (λ c. search needs)  -- enum-told-2
-    (λ c κs. let h = here t (c .before .before) in (stands h, havoc-asks h (c .enum-told2 .given .1)))  -- havoc-requires
+    (λ c κs. let h = here t (c .before .before) in (stands h, havoc-field (h .read) (c .enum-told2 .given .1)))  -- havoc-requires
     (λ c. search needs)  -- enum-told-3
     (λ c κs. let h = here t (c .before .before .before .before) in (stands h, assume-asks h (c .before .before .enum-told3 .given .1)))  -- tested-requires
     (λ c. search needs)  -- enum-told-4

@@ -1,5 +1,5 @@
 -- `runs::run_whole` meets its contract. Assumes nothing.
-use Rattle.actions.proofs.Actions.{whole}
+use Rattle.blocks.proofs.Accepted.{whole}
 use Rattle.runs.proofs.Whole.{packet-few, root-runs, runs-whole}
 use borrow.Author.Needs.{needs}
 use Rattle.runs.proofs.run_whole.Statement.{statement}
