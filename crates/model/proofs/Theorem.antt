@@ -16,7 +16,7 @@ use Rattle.model.specs.Blocks.{F, widths}
 use Rattle.model.specs.Trees.{bitsIn}
 use Rattle.model.specs.Good.{Within}
 use Rattle.model.specs.Runs.{state, pipelineRun}
-use Rattle.model.specs.Passive.{Vars, vars, Form, JoinRule, passiveBy}
+use Rattle.model.specs.Passive.{Vars, Form, JoinRule, packetVars, passiveBy}
 use Rattle.model.specs.Emit.{emit}
 use Rattle.model.specs.Walk.{goesWrong, walkWrong}
 use Rattle.model.specs.Demands.{FailsWith}
@@ -49,7 +49,7 @@ module _ (p r : List ℕ) (w : WellFormed p r) (rule : JoinRule) (laws : JoinLaw
   all = whole .after .widths
 
   abbrev start : Vars
-  start = vars (each (λ i. i) (F p)) (widths p)
+  start = packetVars p
 
   -- the packet is variables 0 to F - 1
   start-var : (i : ℕ) → i < length (widths p) → var start i ≡ i

@@ -152,6 +152,10 @@ keyTests p r i (suc j) = Test.connect Connective.And (keyTests p r i j) (keyTest
 abbrev pub matching : List ℕ → List ℕ → ℕ → Test
 matching p r i = keyTests p r i (keyCount p (tableOf r i))
 
+-- variables 0 to F-1 are the packet
+abbrev pub packetVars : List ℕ → Vars
+packetVars p = vars (each (λ i. i) (F p)) (widths p)
+
 -- Apply: a chain. Each rule, in the order in which they are tried, is a choice of (assume m, then the body) or (assume not m, then
 -- the rest); the rest of the last rule, or all of a table without rules, is the default's body.
 module _ (p r : List ℕ) (rule : JoinRule) where
@@ -170,9 +174,9 @@ module _ (p r : List ℕ) (rule : JoinRule) where
   abbrev pub tableForm : ℕ → Vars → Form
   tableForm t s = chainForm t (tried r t) s
 
-  -- the whole pipeline: variables 0 to F-1 are the packet
+  -- the whole pipeline
   unfoldable pub passiveBy : Form
-  passiveBy = passify (widths p) rule tableForm (program p) (vars (each (λ i. i) (F p)) (widths p))
+  passiveBy = passify (widths p) rule tableForm (program p) (packetVars p)
 
 abbrev pub passive : List ℕ → List ℕ → Form
 passive p r = passiveBy p r newWhereDiffers

@@ -13,7 +13,7 @@ use lib.ListN.{set, length, take, length-set}
 use lib.Seq.{take-set-le, take-suc-set}
 use Rattle.model.specs.Lists.{each}
 use Rattle.model.specs.Blocks.{F, root, words, width, widths}
-use Rattle.model.specs.Passive.{Vars, vars, next, passiveBy}
+use Rattle.model.specs.Passive.{packetVars, passiveBy}
 use Rattle.model.specs.Emit.{Emitted, formLimit, past, passiveForm}
 use Rattle.model.specs.Answers.{done, refused, after}
 use Rattle.model.specs.Refusals.{Row, judge, room, checkRows}
@@ -66,13 +66,10 @@ few-first h e = omega (arith, e)
 -- ---- the whole form
 
 module _ (p r : List ℕ) (accepted : Accepted p r) where
-  abbrev start : Vars
-  start = vars (each (λ i. i) (F p)) (widths p)
-
   -- the fields' widths are the first that stand in the area
   packet-holds : {v : Held} (lent area : List ℕ) → take (F p) (v .current) ≡ each (λ i. i) (F p) → v .next ≡ F p
       → (length (widths p) ≤ length lent → area ≡ over (widths p) lent) → length area ≡ length lent
-      → Holds p lent area v start
+      → Holds p lent area v (packetVars p)
   packet-holds lent area c n w same =
       let long = length-each (width p) (F p) in
       record { current = c; new = n ∙ sym long; widths = w; same = same }
@@ -86,26 +83,26 @@ module _ (p r : List ℕ) (accepted : Accepted p r) where
   module _ (lent area : List ℕ) {v : Held} {nodes nodes′ area′ : List ℕ} {m : Made} (c : take (F p) (v .current) ≡ each (λ i. i) (F p)) (n : v .next ≡ F p)
       (ws : List ℕ) (is : ws ≡ widths p) (w : length ws ≤ length lent → area ≡ over ws lent) (same : length area ≡ length lent)
       (g : Writes p (formOf p r programScope (root p)) 0 v nodes nodes′ area area′ m) where
-    holds : Holds p lent area v start
+    holds : Holds p lent area v (packetVars p)
     holds = packet-holds lent area c n (rw is at w) same
 
     pub form-counts : Counts whole m
     unfolding passiveForm passiveBy
     form-counts =
-        let e = alone (g .emitted lent start holds) in
+        let e = alone (g .emitted lent (packetVars p) holds) in
         record {
           count = λ h. e .exact (omega (arith, behind)) ∙ behind;
           large = λ h. e .large (omega (arith, behind));
-          variables = λ h. g .holds lent start holds (omega (arith, e .exact (omega (arith, behind)), behind)) .new;
+          variables = λ h. g .holds lent (packetVars p) holds (omega (arith, e .exact (omega (arith, behind)), behind)) .new;
         }
 
     pub form-leaves : Leaves whole nodes nodes′ lent area′
     unfolding passiveForm passiveBy
     form-leaves =
-        let e = alone (g .emitted lent start holds) in
+        let e = alone (g .emitted lent (packetVars p) holds) in
         record {
           nodesArea = λ h k. e .wrote (omega (arith, behind)) (omega (arith, length-words (whole .nodes)));
-          widthsArea = λ h. g .holds lent start holds (omega (arith, e .exact (omega (arith, behind)), behind)) .widths;
+          widthsArea = λ h. g .holds lent (packetVars p) holds (omega (arith, e .exact (omega (arith, behind)), behind)) .widths;
         }
 
 -- ---- what Passify answers
