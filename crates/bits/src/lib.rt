@@ -1,4 +1,6 @@
 // Arithmetic at a width of 1 to 32 bits, on u32. Sums and shifts go through u64, where a value of 33 bits has room.
+#![tactic(auto)]
+
 ghost use Rattle.std.specs.Prelude.{◌≡◌, ◌&&◌, ◌-◌, ◌%◌, ◌^◌, ◌<◌, ◌≤◌};
 ghost use Rattle.std.specs.Int.Bits.{bit_and, bit_or, bit_xor};
 ghost use Rattle.bits.specs.Width.{fits, sum, difference, binary, complement, slice, join, less, under};

@@ -155,7 +155,7 @@ pub record Speaks {A : Type 0} (said : A → Answer (List ℕ)) (made : List ℕ
 -- two answers that say the same are one
 pub one_said : {A : Type 0} {said : A → Answer (List ℕ)} {made : List ℕ → A} {refusal : Refusal → A} → Speaks said made refusal
     → (x y : A) (b : Answer (List ℕ)) → said x ≡ b → said y ≡ b → x ≡ y
-one_said speaks = one_answer _ (back _ _) speaks.inverse
+one_said {A} {said} {made} {refusal} speaks = one_answer said (back made refusal) speaks.inverse
 
 module _ {A B : Type 0} {said : A → Answer (List ℕ)} {made : List ℕ → A} {refusal : Refusal → A} (speaks : Speaks said made refusal) where
   -- the answer of a call that gives m, told by its values
@@ -180,14 +180,14 @@ speaks_loaded = record { inverse = inverse; refuses = λ r. refl }
   where
     inverse : (x : Loaded) → back (λ xs. Loaded.Blocks (word xs 0) (word xs 1)) Loaded.Refused (said.loaded x) ≡ x
     inverse (Loaded.Blocks p r) = refl
-    inverse (Loaded.Refused r) = refusal_back _ _ r
+    inverse (Loaded.Refused r) = refusal_back (λ xs. Loaded.Blocks (word xs 0) (word xs 1)) Loaded.Refused r
 
 speaks_checked : Speaks said.checked (λ _. Checked.Accepted) Checked.Refused
 speaks_checked = record { inverse = inverse; refuses = λ r. refl }
   where
     inverse : (x : Checked) → back (λ _. Checked.Accepted) Checked.Refused (said.checked x) ≡ x
     inverse Checked.Accepted = refl
-    inverse (Checked.Refused r) = refusal_back _ _ r
+    inverse (Checked.Refused r) = refusal_back (λ _. Checked.Accepted) Checked.Refused r
 
 -- Run's success, and a success that says yes or no
 abbrev end_of : List ℕ → Ran
@@ -203,7 +203,7 @@ speaks_ran = record { inverse = inverse; refuses = λ r. refl }
     inverse (Ran.Passed used) = refl
     inverse (Ran.Blocked node used) = refl
     inverse (Ran.Failed node used) = refl
-    inverse (Ran.Refused r) = refusal_back _ _ r
+    inverse (Ran.Refused r) = refusal_back end_of Ran.Refused r
 
 pub speaks_confirmed : Speaks said.confirmed (choose Confirmed.No Confirmed.Yes) Confirmed.Refused
 speaks_confirmed = record { inverse = inverse; refuses = λ r. refl }
@@ -211,21 +211,21 @@ speaks_confirmed = record { inverse = inverse; refuses = λ r. refl }
     inverse : (x : Confirmed) → back (choose Confirmed.No Confirmed.Yes) Confirmed.Refused (said.confirmed x) ≡ x
     inverse Confirmed.Yes = refl
     inverse Confirmed.No = refl
-    inverse (Confirmed.Refused r) = refusal_back _ _ r
+    inverse (Confirmed.Refused r) = refusal_back (choose Confirmed.No Confirmed.Yes) Confirmed.Refused r
 
 speaks_passified : Speaks said.passified (λ xs. Passified.Form (word xs 0) (word xs 1)) Passified.Refused
 speaks_passified = record { inverse = inverse; refuses = λ r. refl }
   where
     inverse : (x : Passified) → back (λ xs. Passified.Form (word xs 0) (word xs 1)) Passified.Refused (said.passified x) ≡ x
     inverse (Passified.Form n w) = refl
-    inverse (Passified.Refused r) = refusal_back _ _ r
+    inverse (Passified.Refused r) = refusal_back (λ xs. Passified.Form (word xs 0) (word xs 1)) Passified.Refused r
 
 speaks_built : Speaks said.built (λ xs. Built.Entries (word xs 0)) Built.Refused
 speaks_built = record { inverse = inverse; refuses = λ r. refl }
   where
     inverse : (x : Built) → back (λ xs. Built.Entries (word xs 0)) Built.Refused (said.built x) ≡ x
     inverse (Built.Entries n) = refl
-    inverse (Built.Refused r) = refusal_back _ _ r
+    inverse (Built.Refused r) = refusal_back (λ xs. Built.Entries (word xs 0)) Built.Refused r
 
 speaks_evaluated : Speaks said.evaluated (choose Evaluated.False Evaluated.True) Evaluated.Refused
 speaks_evaluated = record { inverse = inverse; refuses = λ r. refl }
@@ -233,14 +233,14 @@ speaks_evaluated = record { inverse = inverse; refuses = λ r. refl }
     inverse : (x : Evaluated) → back (choose Evaluated.False Evaluated.True) Evaluated.Refused (said.evaluated x) ≡ x
     inverse Evaluated.True = refl
     inverse Evaluated.False = refl
-    inverse (Evaluated.Refused r) = refusal_back _ _ r
+    inverse (Evaluated.Refused r) = refusal_back (choose Evaluated.False Evaluated.True) Evaluated.Refused r
 
 speaks_extracted : Speaks said.extracted (λ xs. Extracted.Choices (word xs 0)) Extracted.Refused
 speaks_extracted = record { inverse = inverse; refuses = λ r. refl }
   where
     inverse : (x : Extracted) → back (λ xs. Extracted.Choices (word xs 0)) Extracted.Refused (said.extracted x) ≡ x
     inverse (Extracted.Choices n) = refl
-    inverse (Extracted.Refused r) = refusal_back _ _ r
+    inverse (Extracted.Refused r) = refusal_back (λ xs. Extracted.Choices (word xs 0)) Extracted.Refused r
 
 known_check : (p r : List ℕ) → Known (check_rows p r)
 unfolding check_rows

@@ -17,7 +17,7 @@ use Rattle.model.specs.Passive.{Passive, Origin, Vars, next, beside, Form, JoinR
 use Rattle.model.specs.Walk.{equal, goes_on, goes_wrong}
 use Rattle.model.proofs.Booleans.{true_both, or_left, or_right}
 use Rattle.model.proofs.GoodForms.{AllWidths}
-use Rattle.model.proofs.Renaming.{get_d_map}
+use Rattle.model.proofs.Renaming.{get_or_map}
 use Rattle.model.proofs.Variables.{var, Front, front_trans, front_append, Ready}
 use Rattle.model.proofs.Joins.{JoinLaws, joined_after, joined_front, TwoSides, ready-joined, steps_joined, left_apart, right_apart}
 use Rattle.model.proofs.Equations.{var_bits, map-equal}
@@ -84,7 +84,7 @@ module _ (ws widths : List ℕ) (rule : JoinRule) (laws : JoinLaws rule) (sizes 
             let y = m w (agree_trans n₂ stays b) in
             let eq : map w zs ≡ packet =
             ext_get_or 0 (map w zs) packet (length-map zs w ∙ size ∙ sym packet-size)
-            (λ i h. let k : i < length zs = rw (length-map zs w) at h in get_d_map w zs i k ∙ b (get_or zs i 0) (ready.low i (rw size at k)) ∙ is i k) in
+            (λ i h. let k : i < length zs = rw (length-map zs w) at h in get_or_map w zs i k ∙ b (get_or zs i 0) (ready.low i (rw size at k)) ∙ is i k) in
             (true_both _ _ y.0 (map-equal widths w x.current zs (y.1 ∙ sym eq)), eq);
       }
 
@@ -97,10 +97,10 @@ module _ (ws widths : List ℕ) (rule : JoinRule) (laws : JoinLaws rule) (sizes 
 
   in_first : (p : Passive) (v : ℕ → ℕ) (o : Outcome) → Meets widths e l (aim p) v o → Meets widths e after (side_aim p (equations l.current zs)) v o
   in_first p v (passed t) m =
-      settle l s.left_ready front_left n_before (le_trans n_left n_right) p v m.to t.packet m.to-fits m.agrees m.holds
+      settle l s.left_ready front_left n_before (le_trans n_left n_right) p v m.to t.packet m.to_fits m.agrees m.holds
       (seen_left m.to t.packet)
   in_first p v (failed k t) m =
-      record { to = m.to; to_fits = m.to-fits; agrees = m.agrees; holds = λ w a. m.holds w (agree_less (le_trans n_left n_right) a) }
+      record { to = m.to; to_fits = m.to_fits; agrees = m.agrees; holds = λ w a. m.holds w (agree_less (le_trans n_left n_right) a) }
   in_first p v (blocked k t) m = tt
   in_first p v (refused number place) m = tt
 
@@ -152,16 +152,16 @@ module _ (ws widths : List ℕ) (rule : JoinRule) (laws : JoinLaws rule) (sizes 
   in_second q v f packet eq (passed t) rec =
       let first = rec v f eq in
       let now = (first.holds first.to (agree_refl first.to _)).1 in
-      let lf = packet-fits ws widths r s.right_ready front_right first.to t.packet now first.to-fits in
+      let lf = packet-fits ws widths r s.right_ready front_right first.to t.packet now first.to_fits in
       let ls : length t.packet ≡ length ws = sym (ap length now) ∙ length-map r.current first.to ∙ s.right_ready.size in
       let agrees = prepared_agrees v t.packet lf ls in
       let here = still ws widths e s.before (front_trans s.left.front front_left) v packet eq _ agrees in
       let m = rec (prepared v t.packet lf ls) (prepared_fits v t.packet lf ls f) here in
-      settle r s.right_ready front_right (le_trans n_before n_left) n_right q v m.to t.packet m.to-fits (agree_trans n_before agrees m.agrees) m.holds
+      settle r s.right_ready front_right (le_trans n_before n_left) n_right q v m.to t.packet m.to_fits (agree_trans n_before agrees m.agrees) m.holds
       (seen_right v t.packet lf ls m.to m.agrees)
   in_second q v f packet eq (failed k t) rec =
       let m = rec v f eq in
-      record { to = m.to; to_fits = m.to-fits; agrees = agree_less n_before m.agrees; holds = λ w a. m.holds w (agree_less n_right a) }
+      record { to = m.to; to_fits = m.to_fits; agrees = agree_less n_before m.agrees; holds = λ w a. m.holds w (agree_less n_right a) }
   in_second q v f packet eq (blocked k t) rec = tt
   in_second q v f packet eq (refused number place) rec = tt
 
@@ -182,7 +182,7 @@ module _ (ws widths : List ℕ) (rule : JoinRule) (laws : JoinLaws rule) (sizes 
     by_first : (out : Outcome) → Meets widths e l.after (aim p) v out → Joined o p q v out
     unfolding join goes_on goes_wrong
     by_first out m =
-        weaker widths e _ _ _ v out longer (λ w a. or_left _ _) (λ w a. or_left _ _)
+        weaker widths e _ (side_aim p (equations l.after.current (joined_after ws rule e l.after r.after).current)) (aim (join ws rule o e p l.after q r.after).body) v out longer (λ w a. or_left _ (goes_on (var_bits widths w) q && equal (var_bits widths w) (equations r.after.current (joined_after ws rule e l.after r.after).current))) (λ w a. or_left _ (goes_wrong (var_bits widths w) q))
         (in_first ws widths rule laws sizes e l.after r.after s front p v out m)
 
     by_second : Fits widths v → (packet : List ℕ) → map v e.current ≡ packet → (out : Outcome)
@@ -191,7 +191,7 @@ module _ (ws widths : List ℕ) (rule : JoinRule) (laws : JoinLaws rule) (sizes 
     unfolding join goes_on goes_wrong
     by_second f packet eq out rec =
         let xs = equations l.after.current (both o p q).after.current in
-        weaker widths e _ _ _ v out longer
+        weaker widths e _ (side_aim q (equations r.after.current (joined_after ws rule e l.after r.after).current)) (aim (join ws rule o e p l.after q r.after).body) v out longer
         (λ w a. or_right (goes_on (var_bits widths w) p && equal (var_bits widths w) xs) _) (λ w a. or_right (goes_wrong (var_bits widths w) p) _)
         (in_second ws widths rule laws sizes e l.after r.after s front q v f packet eq out rec)
 
@@ -226,7 +226,7 @@ module _ (ws widths : List ℕ) (rule : JoinRule) (laws : JoinLaws rule) (sizes 
           → Meets widths e₀ e₁ (aim p) v out → Meets widths e₀ e₁ (aim (Passive.assume t then p)) v out
       unfolding goes_on goes_wrong
       guarded e₀ e₁ t p v out n₀ n₁ i m =
-          weaker widths e₀ e₁ _ _ v out n₁ (λ w d. true_both _ _ (i w (agree_less n₀ d))) (λ w d. true_both _ _ (i w (agree_less n₀ d))) m
+          weaker widths e₀ e₁ (aim p) (aim (Passive.assume t then p)) v out n₁ (λ w d. true_both _ _ (i w (agree_less n₀ d))) (λ w d. true_both _ _ (i w (agree_less n₀ d))) m
 
       pub complete_chain : Front (both Origin.of_chain first rest).after.widths widths
           → Complete widths (whether test a b) e (both Origin.of_chain first rest)

@@ -15,7 +15,7 @@ use Rattle.model.specs.Passive.{Passive, Equation, Vars, next, fresh, Form, form
 use Rattle.model.specs.Walk.{equal, goes_on, goes_wrong}
 use Rattle.model.specs.declared.Bits.{Bits}
 use Rattle.model.proofs.Booleans.{true_both, or_left, or_right}
-use Rattle.model.proofs.Renaming.{get_d_map, map-set}
+use Rattle.model.proofs.Renaming.{get_or_map, map-set}
 use Rattle.model.proofs.Fits.{sized}
 use Rattle.model.proofs.Variables.{var, Front, front_trans, front_append, fresh-next, fresh-width, Ready}
 use Rattle.model.proofs.Equations.{var_bits}
@@ -67,12 +67,12 @@ module _ (widths : List ℕ) where
   weaker e e' p q v (passed t) n i j m =
       record {
         to = m.to;
-        to_fits = m.to-fits;
+        to_fits = m.to_fits;
         agrees = m.agrees;
         holds = λ w a. let h = m.holds w a in (i w (agree_trans n m.agrees a) h.0, h.1);
       }
   weaker e e' p q v (failed k t) n i j m =
-      record { to = m.to; to_fits = m.to-fits; agrees = m.agrees; holds = λ w a. j w (agree_trans n m.agrees a) (m.holds w a) }
+      record { to = m.to; to_fits = m.to_fits; agrees = m.agrees; holds = λ w a. j w (agree_trans n m.agrees a) (m.holds w a) }
   weaker e e' p q v (blocked k t) n i j m = tt
   weaker e e' p q v (refused number place) n i j m = tt
 
@@ -84,14 +84,14 @@ module _ (widths : List ℕ) where
     second packet x (passed t) m =
         record {
           to = m.to;
-          to_fits = m.to-fits;
+          to_fits = m.to_fits;
           agrees = agree_trans n₁ x.agrees m.agrees;
           holds = λ w a. let h = m.holds w a in (true_both _ _ (x.holds w (agree_trans n₂ m.agrees a)).0 h.0, h.1);
         }
     second packet x (failed k t) m =
         record {
           to = m.to;
-          to_fits = m.to-fits;
+          to_fits = m.to_fits;
           agrees = agree_trans n₁ x.agrees m.agrees;
           holds = λ w a.
               or_right (goes_wrong (var_bits widths w) p) _ (true_both _ _ (x.holds w (agree_trans n₂ m.agrees a)).0 (m.holds w a));
@@ -103,9 +103,9 @@ module _ (widths : List ℕ) where
         → ((u : ℕ → ℕ) → Fits widths u → (t : State) → map u e₁.current ≡ t.packet → Meets e₁ e₂ (aim q) u (go t))
         → Meets e e₂ (aim (p then q)) v (and_then o go)
     unfolding goes_on goes_wrong
-    in_order_lem (passed t) go m r = second t.packet m (go t) (r m.to m.to-fits t (m.holds m.to (agree_refl m.to _)).1)
+    in_order_lem (passed t) go m r = second t.packet m (go t) (r m.to m.to_fits t (m.holds m.to (agree_refl m.to _)).1)
     in_order_lem (failed i t) go m r =
-        record { to = m.to; to_fits = m.to-fits; agrees = m.agrees; holds = λ w a. or_left _ _ (m.holds w (agree_less n₂ a)) }
+        record { to = m.to; to_fits = m.to_fits; agrees = m.agrees; holds = λ w a. or_left _ _ (m.holds w (agree_less n₂ a)) }
     in_order_lem (blocked i t) go m r = tt
     in_order_lem (refused number place) go m r = tt
 
@@ -127,7 +127,7 @@ module _ (ws widths : List ℕ) where
 
     -- a field's value in the packet
     pub packet-at : (i : ℕ) → i < length ws → get_or packet i 0 ≡ v (var e i)
-    packet-at i h = rw (← q) (get_d_map v e.current i (rw k.size h))
+    packet-at i h = rw (← q) (get_or_map v e.current i (rw k.size h))
 
     pub packet-fits : Fits widths v → (i : ℕ) → i < length ws → get_or packet i 0 < 2 ^ get_or ws i 0
     packet-fits f i h = rw (packet-at i h, ← k.wide i h, ← front.same (var e i) (k.low i h)) (f (var e i))
@@ -215,7 +215,7 @@ module _ (ws widths : List ℕ) where
             let r = stores (bits_of at x).number h in
             record {
               to = r.to;
-              to_fits = r.to-fits;
+              to_fits = r.to_fits;
               agrees = r.agrees;
               holds = λ w a.
                   let z = r.holds w a in
@@ -233,7 +233,7 @@ module _ (ws widths : List ℕ) where
                 → Meets widths e after (aim (Passive.havoced (next e))) v (if b then passed (put (state packet left (suc u)) i c) else refused 15 u)
             go true h =
                 let r = stores c (ltb-true c _ h) in
-                record { to = r.to; to_fits = r.to-fits; agrees = r.agrees; holds = λ w a. (refl, (r.holds w a).2) }
+                record { to = r.to; to_fits = r.to_fits; agrees = r.agrees; holds = λ w a. (refl, (r.holds w a).2) }
             go false h = tt
 
       pub complete_assign : (x : Val) → GoodValue ws x → width_of_value ws x ≡ get_or ws i 0 → Leaf (Stmt.assign i x)

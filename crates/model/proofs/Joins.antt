@@ -56,7 +56,7 @@ module _ (rule : JoinRule) where
   new-from m [] ls rs (suc i) = le_refl m
   new-from m (b ∷ bs) [] rs (suc i) = le_refl m
   new-from m (b ∷ bs) (l ∷ ls) [] (suc i) = le_refl m
-  new-from m (b ∷ bs) (l ∷ ls) (r ∷ rs) (suc i) = le_trans (bump m (eqb (rule b l r m) m)) (new-from _ bs ls rs i)
+  new-from m (b ∷ bs) (l ∷ ls) (r ∷ rs) (suc i) = le_trans (bump m (eqb (rule b l r m) m)) (new-from (if eqb (rule b l r m) m then suc m else m) bs ls rs i)
 
   -- a joined variable is what the rule says of its field
   joined_by : (m : ℕ) (bs ls rs : List ℕ) (i : ℕ) → i < length bs → length ls ≡ length bs → length rs ≡ length bs
@@ -66,14 +66,14 @@ module _ (rule : JoinRule) where
   joined_by m (b ∷ bs) [] rs i h p q = let z : ⊥ = omega arith in absurd z
   joined_by m (b ∷ bs) (l ∷ ls) [] i h p q = let z : ⊥ = omega arith in absurd z
   joined_by m (b ∷ bs) (l ∷ ls) (r ∷ rs) zero h p q = refl
-  joined_by m (b ∷ bs) (l ∷ ls) (r ∷ rs) (suc i) h p q = joined_by _ bs ls rs i (le_of_suc-le-suc h) (suc_inj p) (suc_inj q)
+  joined_by m (b ∷ bs) (l ∷ ls) (r ∷ rs) (suc i) h p q = joined_by (if eqb (rule b l r m) m then suc m else m) bs ls rs i (le_of_suc-le-suc h) (suc_inj p) (suc_inj q)
 
   joined_length : (m : ℕ) (bs ls rs : List ℕ) → length ls ≡ length bs → length rs ≡ length bs → length (joined_vars rule m bs ls rs) ≡ length bs
   unfolding joined_vars
   joined_length m [] ls rs p q = refl
   joined_length m (b ∷ bs) [] rs p q = let z : ⊥ = omega arith in absurd z
   joined_length m (b ∷ bs) (l ∷ ls) [] p q = let z : ⊥ = omega arith in absurd z
-  joined_length m (b ∷ bs) (l ∷ ls) (r ∷ rs) p q = ap suc (joined_length _ bs ls rs (suc_inj p) (suc_inj q))
+  joined_length m (b ∷ bs) (l ∷ ls) (r ∷ rs) p q = ap suc (joined_length (if eqb (rule b l r m) m then suc m else m) bs ls rs (suc_inj p) (suc_inj q))
 
   -- a new variable is taken once
   new-once : (m : ℕ) (bs ls rs : List ℕ) (i j : ℕ) → i < j → j < length bs → length ls ≡ length bs → length rs ≡ length bs
@@ -85,7 +85,7 @@ module _ (rule : JoinRule) where
   new-once m (b ∷ bs) (l ∷ ls) (r ∷ rs) i zero h h' p q e = absurd (not-suc-le-zero h)
   new-once m (b ∷ bs) (l ∷ ls) (r ∷ rs) zero (suc j) h h' p q e = rw (eq-eqb (rule b l r m) m e) (new-from (suc m) bs ls rs j)
   new-once m (b ∷ bs) (l ∷ ls) (r ∷ rs) (suc i) (suc j) h h' p q e =
-      new-once _ bs ls rs i j (le_of_suc-le-suc h) (le_of_suc-le-suc h') (suc_inj p) (suc_inj q) e
+      new-once (if eqb (rule b l r m) m then suc m else m) bs ls rs i j (le_of_suc-le-suc h) (le_of_suc-le-suc h') (suc_inj p) (suc_inj q) e
 
   -- and it has the field's width
   new-width : (before : List ℕ) (m : ℕ) (ws bs ls rs : List ℕ) (i : ℕ) → length before ≡ m

@@ -7,7 +7,7 @@ use lib.ListN.{get_or, length}
 use Rattle.model.specs.Trees.{Val, Test, of_width, bits_of, truth_of, bits_in}
 use Rattle.model.specs.Good.{GoodValue, GoodTest, width_of_value}
 use Rattle.model.specs.Passive.{Vars, renamed, renamed_test}
-use Rattle.model.proofs.Renaming.{get_d_map, renamed_bits, renamed-truth, renamed-width, renamed-good, renamed-good-test}
+use Rattle.model.proofs.Renaming.{get_or_map, renamed_bits, renamed-truth, renamed-width, renamed-good, renamed-good-test}
 use Rattle.model.proofs.Variables.{var, Front, Ready}
 use Rattle.model.proofs.Equations.{var_bits}
 
@@ -21,7 +21,7 @@ module _ (ws widths : List ℕ) (e : Vars) (k : Ready ws e) (front : Front e.wid
 
   module _ (v : ℕ → ℕ) where
     reads : (i : ℕ) → i < length ws → var_bits widths v (var e i) ≡ bits_in ws (map v e.current) i
-    reads i h = ap₂ of_width (wide i h) (sym (get_d_map v e.current i (rw k.size h)))
+    reads i h = ap₂ of_width (wide i h) (sym (get_or_map v e.current i (rw k.size h)))
 
     pub reads_bits : (x : Val) → GoodValue ws x → bits_of (var_bits widths v) (renamed e.current x) ≡ bits_of (bits_in ws (map v e.current)) x
     reads_bits x g = renamed_bits ws e.current (var_bits widths v) (bits_in ws (map v e.current)) reads x g

@@ -10,10 +10,10 @@ use Rattle.model.specs.Good.{width_of_value, GoodValue, GoodTest}
 use Rattle.model.specs.Passive.{renamed, renamed_test}
 use Rattle.model.specs.declared.Bits.{Bits}
 
-pub get_d_map : (f : ℕ → ℕ) (l : List ℕ) (i : ℕ) → i < length l → get_or (map f l) i 0 ≡ f (get_or l i 0)
-get_d_map f [] i h = absurd (not-suc-le-zero h)
-get_d_map f (x ∷ l) zero h = refl
-get_d_map f (x ∷ l) (suc i) h = get_d_map f l i (le_of_suc-le-suc h)
+pub get_or_map : (f : ℕ → ℕ) (l : List ℕ) (i : ℕ) → i < length l → get_or (map f l) i 0 ≡ f (get_or l i 0)
+get_or_map f [] i h = absurd (not-suc-le-zero h)
+get_or_map f (x ∷ l) zero h = refl
+get_or_map f (x ∷ l) (suc i) h = get_or_map f l i (le_of_suc-le-suc h)
 
 pub map-set : (f : ℕ → ℕ) (l : List ℕ) (i a : ℕ) → map f (set l i a) ≡ set (map f l) i (f a)
 map-set f [] i a = refl

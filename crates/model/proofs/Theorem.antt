@@ -24,7 +24,7 @@ use Rattle.model.proofs.Lists.{length-each, each_at}
 use Rattle.model.proofs.GoodForms.{AllWidths, GoodPassive}
 use Rattle.model.proofs.Within.{within-length, within-at, within_of}
 use Rattle.model.proofs.Accepted.{WellFormed}
-use Rattle.model.proofs.Renaming.{get_d_map}
+use Rattle.model.proofs.Renaming.{get_or_map}
 use Rattle.model.proofs.Variables.{var, Front, front_refl, Ready}
 use Rattle.model.proofs.Joins.{JoinLaws}
 use Rattle.model.proofs.Valuations.{Fits}
@@ -39,7 +39,7 @@ first_values vs n h =
     ext_get_or 0 (map v ids) (take n vs) (length-map ids v ∙ length-each (λ i. i) n ∙ sym (length-take-le n vs h))
     (λ i k.
     let b : i < n = rw (length-map ids v, length-each (λ i. i) n) at k in
-    get_d_map v ids i (rw length-each b) ∙ ap v (each_at (λ i. i) n i 0 b) ∙ sym (get_or-take n vs i 0 b))
+    get_or_map v ids i (rw length-each b) ∙ ap v (each_at (λ i. i) n i 0 b) ∙ sym (get_or-take n vs i 0 b))
 
 module _ (p r : List ℕ) (w : WellFormed p r) (rule : JoinRule) (laws : JoinLaws rule) where
   abbrev whole : Form
@@ -147,7 +147,7 @@ module _ (p r : List ℕ) (w : WellFormed p r) (rule : JoinRule) (laws : JoinLaw
         let is : (y : ℕ) → y < n → get_or vs y 0 ≡ m.to y = λ y k. each_at m.to n y 0 k in
         let size = length-each m.to n in (
           vs,
-          within_of all vs size (λ i k. rw (is i k) (m.to-fits i)),
+          within_of all vs size (λ i k. rw (is i k) (m.to_fits i)),
           same-packet vs size (λ i k. is i (lt_of_lt_of_le k front_start.shorter) ∙ m.agrees i k),
           m.holds (λ y. get_or vs y 0) is,
         )

@@ -95,11 +95,11 @@ lookup p r packet t =
 -- Which part is returned: its words, and where it begins, so many words of four bytes into the block that it is a part of. A slice is a
 -- reference here, with its pointer. An empty part may stand anywhere.
 abbrev pub words_into : Bor (List ℕ) → ℕ → ℕ × ℕ
-words_into s n = (s.ptr.0, n * 4 + s.ptr.1)
+words_into s n = (s.ref_ptr.0, n * 4 + s.ref_ptr.1)
 
 abbrev pub Begins : Part → Bor (List ℕ) → Bor (List ℕ) → Bor (List ℕ) → Type 0
-Begins (Part.Rules at) p r part = part.ptr ≡ words_into r at
-Begins (Part.Pipeline at) p r part = part.ptr ≡ words_into p at
+Begins (Part.Rules at) p r part = part.ref_ptr ≡ words_into r at
+Begins (Part.Pipeline at) p r part = part.ref_ptr ≡ words_into p at
 Begins Part.Empty p r part = Unit {0}
 
 pub record LooksUp (p r : Bor (List ℕ)) (packet : List ℕ) (t : ℕ) (part : Bor (List ℕ)) : Type 0 where

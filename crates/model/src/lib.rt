@@ -1,4 +1,6 @@
 // The types that the contracts speak of. What each means is said in specs/, in document 01's words and order.
+#![tactic(auto)]
+
 use bits::Op;
 
 // The groups of records, in the order of the record file.
