@@ -1,4 +1,6 @@
 // What an applied table runs: the action of a rule or of the default, with its data.
+#![tactic(auto)]
+
 ghost use Rattle.std.specs.Prelude.{◌≡◌, ℕ, ◌+◌, ◌≤◌, ◌<◌, length};
 ghost use Rattle.model.specs.Lists.{word};
 ghost use Rattle.model.specs.Blocks.{A as actions, T, R, call_at};

@@ -1,4 +1,6 @@
 // Writing into an area that is lent: the words go to its start, and the words past them stay.
+#![tactic(auto)]
+
 ghost use Rattle.std.specs.Prelude.{◌≡◌, ◌≤◌, length, take};
 ghost use Rattle.model.specs.Calls.{over};
 

@@ -1,4 +1,6 @@
 // The records of a pipeline block and of a rule block, read in place. Counts and places are usize; a word is as the block has it.
+#![tactic(auto)]
+
 ghost use Rattle.std.specs.Prelude.{◌≡◌, ◌+◌, ◌≤◌, ◌<◌, ◌^◌, length};
 ghost use Rattle.model.specs.Lists.{word};
 ghost use Rattle.model.specs.Blocks.{F, N, A as actions, T, R, root, pipeline_length, width, widths, node_place, action_place, table_place, rule_place, node_at, pipeline_node, body, parameter_count, parameter_width, key_count, key, default_place, table_of, value, mask, call_place};

@@ -1,4 +1,6 @@
 // The calls of document 01 for C, and for every language that can call C. No call asks anything of its arguments.
+#![tactic(auto)]
+
 ghost use Rattle.std.specs.Prelude.{◌≡◌, [], length};
 ghost use Rattle.model.specs.Answers.{told, yes_or_no, looked_up};
 ghost use Rattle.model.specs.Blocks.{words};

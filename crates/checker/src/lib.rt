@@ -1,4 +1,6 @@
 // Check: a pipeline block and its rule block are accepted, or refused with the first number of 2 to 10 that applies, and its place.
+#![tactic(auto)]
+
 ghost use Rattle.std.specs.Prelude.{◌≡◌, ◌&&◌, [], ◌+◌, ◌≤◌, ◌<◌, ltb, leb, length};
 ghost use Rattle.bits.specs.Width.{fits};
 ghost use Rattle.model.specs.Lists.{within, every};

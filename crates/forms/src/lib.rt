@@ -1,5 +1,7 @@
 // The passive form of a statement, behind the nodes that stand in the area. Node numbers go on from one piece to the next; above the limit
 // nothing more is emitted, and the number says so.
+#![tactic(auto)]
+
 ghost use Rattle.std.specs.Prelude.{◌≡◌, List, [], ◌∷◌, ℕ, ◌-◌, ◌≤◌, ◌<◌, take};
 ghost use Rattle.model.specs.Blocks.{F, N, T, R, widths as field_widths, node};
 ghost use Rattle.model.specs.Trees.{Stmt, as_value, as_test, tree};

@@ -1,4 +1,6 @@
 // The guards of a table's chain: assume that a rule matches, or that it does not.
+#![tactic(auto)]
+
 ghost use Rattle.std.specs.Prelude.{◌≡◌, ◌≤◌, ◌<◌};
 ghost use Rattle.model.specs.Blocks.{R, key_count, table_of};
 ghost use Rattle.model.specs.Passive.{Passive, renamed_test, matching};

@@ -1,4 +1,6 @@
 // The text that the listing program prints for a record file. Each line is written behind those before it.
+#![tactic(auto)]
+
 ghost use Rattle.std.specs.Prelude.{◌≡◌, [], ◌∷◌, ◌++◌, ◌+◌, ◌*◌, ◌≤◌, length};
 ghost use Rattle.model.specs.Lists.{each};
 ghost use Rattle.model.specs.Blocks.{plain_node};

@@ -1,5 +1,6 @@
 // The listing program: reads a record file on standard input and prints its passive form, or why there is none, on standard output.
 // Of a longer file the first bytes decide the text. Nothing is printed of a file that couldn't be read whole.
+#![tactic(auto)]
 
 // Whether the input has ended, where a read stopped short: one that failed would fail again.
 fn ended() -> bool {

@@ -1,5 +1,7 @@
 // Nodes, wherever they stand, in a pipeline, a passive form or a condition: the kind of a number, what its words are, the sort of a node
 // from the sorts of its children, and the first node of a list that is malformed.
+#![tactic(auto)]
+
 ghost use Rattle.std.specs.Prelude.{◌≡◌, ◌&&◌, List, ℕ, ◌+◌, ◌*◌, ◌-◌, ◌≤◌, ltb, leb, length, get_or};
 ghost use Rattle.bits.specs.Width.{fits};
 ghost use Rattle.model.specs.Lists.{if◌then◌else◌, word};

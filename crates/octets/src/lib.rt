@@ -1,4 +1,6 @@
 // Words as bytes, big-endian.
+#![tactic(auto)]
+
 ghost use Rattle.std.specs.Prelude.{◌≡◌, ◌+◌, ◌≤◌, ◌<◌, length};
 ghost use Rattle.model.specs.Lists.{word};
 ghost use Rattle.model.specs.Bytes.{big_endian};

@@ -1,4 +1,6 @@
 // Passify: the passive form of a pipeline that Check accepts. The same calls count, on areas without room, and write.
+#![tactic(auto)]
+
 ghost use Rattle.std.specs.Prelude.{◌≡◌, ◌≤◌, ◌<◌, take};
 ghost use Rattle.model.specs.Lists.{each};
 ghost use Rattle.model.specs.Blocks.{F};

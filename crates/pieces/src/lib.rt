@@ -1,6 +1,8 @@
 // The pieces of a passive form. Each is written at the start of the area that it is lent, and answers the number of the node behind it: the
 // part of the area behind a piece is lent to the writer of the next one. A node is written only where there is room for it, so that on an
 // empty area the same calls only count.
+#![tactic(auto)]
+
 ghost use Rattle.std.specs.Prelude.{◌≡◌, List, [], ◌∷◌, ◌≤◌, ◌<◌, length};
 ghost use Rattle.model.specs.Blocks.{N, node, words};
 ghost use Rattle.model.specs.Trees.{tree};

@@ -1,5 +1,7 @@
 // Load: the record file. The records of a group stand one after the other, and the groups in their order, so a file is a run of each group
 // and the root. What does not go on a run ends it, and what begins no later one is the file's first fault.
+#![tactic(auto)]
+
 ghost use Rattle.std.specs.Prelude.{◌≡◌, ◌+◌, ◌*◌, ◌≤◌, length, ltb};
 ghost use Rattle.model.specs.Lists.{if◌then◌else◌};
 ghost use Rattle.model.specs.Blocks.{size};

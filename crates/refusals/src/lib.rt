@@ -1,4 +1,6 @@
 // The number of a refusal in document 01's table, and its place.
+#![tactic(auto)]
+
 ghost use Rattle.std.specs.Prelude.{◌≡◌, [], ◌∷◌};
 ghost use Rattle.model.specs.Answers.{refusal_of, number_in, values_in};
 

@@ -1,5 +1,7 @@
 // What a call for C returns: 0 or a refusal's number, and in three numbers that the caller lends the values of a success or the place of a
 // refusal. One function for each answer of document 01.
+#![tactic(auto)]
+
 ghost use Rattle.std.specs.Prelude.{[], ◌∷◌};
 ghost use Rattle.model.specs.Answers as said;
 ghost use Rattle.model.specs.Answers.{done, refusal_of};

@@ -1,4 +1,6 @@
 // Lookup, Run and Confirm: a pipeline, accepted with its rules, on one packet.
+#![tactic(auto)]
+
 ghost use Rattle.std.specs.Prelude.{◌≡◌, List, [], ltb, ℕ, ◌+◌, ◌≤◌, ◌<◌, length};
 ghost use Rattle.model.specs.Lists.{if◌then◌else◌, word, part};
 ghost use Rattle.model.specs.Blocks.{F, T, widths};

@@ -1,5 +1,7 @@
 // The run of a pipeline that Check accepts. It calls itself on child nodes and carries its state by value, so that nothing is written before
 // it has ended.
+#![tactic(auto)]
+
 ghost use Rattle.std.specs.Prelude.{◌≡◌, List, ℕ, ◌≤◌, length};
 ghost use Rattle.model.specs.Blocks.{F};
 ghost use Rattle.model.specs.Good.{Within};

@@ -1,4 +1,6 @@
 // Where a run stands, by value, and what the statements without children make of it.
+#![tactic(auto)]
+
 ghost use Rattle.std.specs.Prelude.{◌≡◌, List, ℕ, ◌+◌, ◌<◌, ◌^◌, set};
 ghost use Rattle.model.specs.Lists.{if◌then◌else◌};
 ghost use Rattle.model.specs.Blocks.{F, N, T, widths};

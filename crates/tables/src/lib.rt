@@ -1,4 +1,6 @@
 // Which rule of a table hits a packet. Only `tried_before`, `first_after` and `settled` know the order in which rules are tried.
+#![tactic(auto)]
+
 ghost use Rattle.std.specs.Prelude.{◌≡◌, true, false, ℕ, ◌+◌, ◌<◌, ◌≤◌};
 ghost use Rattle.model.specs.Blocks.{R, key_count, table_of};
 ghost use Rattle.model.specs.Tables.{matches, tried_before, hit};

@@ -1,4 +1,6 @@
 // Text in an area that is lent: each piece goes behind what stands there already, and the answer is where it ends.
+#![tactic(auto)]
+
 ghost use Rattle.std.specs.Prelude.{[], ◌∷◌, ◌+◌, ◌%◌, ◌≤◌, ◌<◌, length};
 ghost use Rattle.model.specs.Bytes.{decimal};
 ghost use Rattle.text.specs.Adds.{Adds};

@@ -1,5 +1,7 @@
 // Check's refusals 8 and 9, in time linear in the block: the first node that is not used exactly once, and the first parameter or apply in
 // the wrong place.
+#![tactic(auto)]
+
 ghost use Rattle.std.specs.Prelude.{◌≡◌, List, [], ◌∷◌, ℕ, ◌≤◌, ◌<◌};
 ghost use Rattle.model.specs.Lists.{word, each, joined};
 ghost use Rattle.model.specs.Blocks.{N, A as actions, body, pipeline_node};

@@ -1,4 +1,6 @@
 // Bits of a width; the evaluators of values and of tests, which read a pipeline block's nodes in place; the first number that is too wide.
+#![tactic(auto)]
+
 ghost use Rattle.std.specs.Prelude.{◌≡◌, ℕ, ◌+◌, ◌^◌, ◌≤◌, ◌<◌, length};
 ghost use Rattle.bits.specs.Width.{fits};
 ghost use Rattle.model.specs.Lists.{word, first_place};

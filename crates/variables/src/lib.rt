@@ -1,5 +1,7 @@
 // The variables of a passive form: a new one for a field, and how those of the two sides of a choice are joined. Only `joined` knows the
 // rule of a join. A variable's width is written where the area has room for it.
+#![tactic(auto)]
+
 ghost use Rattle.std.specs.Prelude.{◌≡◌, List, [], ◌∷◌, ℕ, ◌+◌, ◌-◌, ◌≤◌, ◌<◌, length, take, get_or, set};
 ghost use Rattle.model.specs.Blocks.{F, words, widths as field_widths};
 ghost use Rattle.model.specs.Passive as passive;

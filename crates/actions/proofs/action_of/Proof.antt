@@ -5,8 +5,8 @@ use Rattle.actions.proofs.Actions.{rule-below, rule-room, rule-action, rule_call
 use Rattle.actions.proofs.action_of.Statement.{statement}
 use Rattle.actions.proofs.action_of.Tie as tie
 
-pub action-of-spec : {M : Type 1} → statement M
-action-of-spec = tie.close (tie.spec
+pub action_of_spec : {M : Type 1} → statement M
+action_of_spec = tie.close (tie.spec
     (λ c. search rules)  -- enum-known-i
     (λ c κs. search rule-below)  -- call-place-requires
     (λ c κs. search (whole, rule-room, rule-action))  -- action-at-requires

@@ -5,8 +5,8 @@ use borrow.Author.Rules.{rules}
 use Rattle.blocks.proofs.count_at.Statement.{statement}
 use Rattle.blocks.proofs.count_at.Tie as tie
 
-pub count-at-spec : {M : Type 1} → statement M
-count-at-spec = tie.close (tie.spec
+pub count_at_spec : {M : Type 1} → statement M
+count_at_spec = tie.close (tie.spec
     (λ c. search rules)
     (λ c. search rules)
     (λ c. omega (arith, c.shared-slice-known.given c.before.args.i))  -- cast-result

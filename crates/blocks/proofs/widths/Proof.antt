@@ -6,8 +6,8 @@ use borrow.Author.Rules.{rules}
 use Rattle.blocks.proofs.widths.Statement.{statement}
 use Rattle.blocks.proofs.widths.Tie as tie
 
-pub widths-spec : {M : Type 1} → statement M
-widths-spec = tie.close (tie.spec
+pub widths_spec : {M : Type 1} → statement M
+widths_spec = tie.close (tie.spec
     (λ c κs. search rules)  -- field-count-requires
     (λ c. search rules)  -- mul-end
     (λ c. search rules)  -- add-end

@@ -7,8 +7,8 @@ use borrow.Author.Rules.{rules}
 use Rattle.capi.proofs.mz_check.Statement.{statement}
 use Rattle.capi.proofs.mz_check.Tie as tie
 
-pub mz-check-spec : {M : Type 1} → statement M
-mz-check-spec = tie.close (tie.spec
+pub mz_check_spec : {M : Type 1} → statement M
+mz_check_spec = tie.close (tie.spec
     (λ c κs. search rules)  -- check-requires
     (λ c κs. search rules)  -- checked-requires
     (λ c.

@@ -6,8 +6,8 @@ use borrow.Author.Rules.{rules}
 use Rattle.capi.proofs.mz_confirm.Statement.{statement}
 use Rattle.capi.proofs.mz_confirm.Tie as tie
 
-pub mz-confirm-spec : {M : Type 1} → statement M
-mz-confirm-spec = tie.close (tie.spec
+pub mz_confirm_spec : {M : Type 1} → statement M
+mz_confirm_spec = tie.close (tie.spec
     (λ c κs. search rules)  -- confirm-requires
     (λ c κs. search rules)  -- confirmed-requires
     (λ c.

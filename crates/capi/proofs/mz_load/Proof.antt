@@ -7,8 +7,8 @@ use borrow.Author.Rules.{rules}
 use Rattle.capi.proofs.mz_load.Statement.{statement}
 use Rattle.capi.proofs.mz_load.Tie as tie
 
-pub mz-load-spec : {M : Type 1} → statement M
-mz-load-spec = tie.close (tie.spec
+pub mz_load_spec : {M : Type 1} → statement M
+mz_load_spec = tie.close (tie.spec
     (λ c κs. search rules)  -- load-requires
     (λ c κs. search rules)  -- loaded-requires
     (λ c. search rules)  -- same-length

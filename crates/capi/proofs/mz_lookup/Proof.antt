@@ -5,8 +5,8 @@ use borrow.Author.Rules.{rules}
 use Rattle.capi.proofs.mz_lookup.Statement.{statement}
 use Rattle.capi.proofs.mz_lookup.Tie as tie
 
-pub mz-lookup-spec : {M : Type 1} → statement M
-mz-lookup-spec = tie.close (tie.spec
+pub mz_lookup_spec : {M : Type 1} → statement M
+mz_lookup_spec = tie.close (tie.spec
     (λ c κs. search rules)  -- lookup-part-requires
     (λ c κs. search rules)  -- looked-up-requires
     (λ c.

@@ -8,8 +8,8 @@ use borrow.Author.Rules.{rules}
 use Rattle.capi.proofs.mz_passify.Statement.{statement}
 use Rattle.capi.proofs.mz_passify.Tie as tie
 
-pub mz-passify-spec : {M : Type 1} → statement M
-mz-passify-spec = tie.close (tie.spec
+pub mz_passify_spec : {M : Type 1} → statement M
+mz_passify_spec = tie.close (tie.spec
     (λ c κs. search rules)  -- passify-requires
     (λ c κs. search rules)  -- passified-requires
     (λ c. search rules)  -- same-length

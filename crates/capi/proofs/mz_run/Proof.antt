@@ -7,8 +7,8 @@ use borrow.Author.Rules.{rules}
 use Rattle.capi.proofs.mz_run.Statement.{statement}
 use Rattle.capi.proofs.mz_run.Tie as tie
 
-pub mz-run-spec : {M : Type 1} → statement M
-mz-run-spec = tie.close (tie.spec
+pub mz_run_spec : {M : Type 1} → statement M
+mz_run_spec = tie.close (tie.spec
     (λ c κs. search rules)  -- run-requires
     (λ c κs. search rules)  -- ran-requires
     (λ c. search rules)  -- same-length

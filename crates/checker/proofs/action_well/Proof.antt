@@ -5,9 +5,9 @@ use borrow.Author.Rules.{rules}
 use Rattle.checker.proofs.action_well.Statement.{statement}
 use Rattle.checker.proofs.action_well.Tie as tie
 
-pub action-well-spec : {M : Type 1} → statement M
+pub action_well_spec : {M : Type 1} → statement M
 unfolding every action_well
-action-well-spec = tie.close (tie.spec
+action_well_spec = tie.close (tie.spec
     (λ c κs. search rules)  -- body-requires
     (λ c κs. search rules)  -- statement-at-requires
     (λ c κs. search rules)  -- parameter-count-requires

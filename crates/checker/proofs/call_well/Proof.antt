@@ -5,8 +5,8 @@ use borrow.Author.Rules.{rules}
 use Rattle.checker.proofs.call_well.Statement.{statement}
 use Rattle.checker.proofs.call_well.Tie as tie
 
-pub call-well-spec : {M : Type 1} → statement M
-call-well-spec = tie.close (tie.spec
+pub call_well_spec : {M : Type 1} → statement M
+call_well_spec = tie.close (tie.spec
     (λ c κs. search rules)  -- word-requires
     (λ c κs. search rules)  -- wide-requires
     (λ c κs. search rules)  -- action-count-requires

@@ -4,8 +4,8 @@ use Rattle.checker.proofs.Judged.{whole, sized, passed-fields, passed-actions, p
 use Rattle.checker.proofs.check.Statement.{statement}
 use Rattle.checker.proofs.check.Tie as tie
 
-pub check-spec : {M : Type 1} → statement M
-check-spec = tie.close (tie.spec
+pub check_spec : {M : Type 1} → statement M
+check_spec = tie.close (tie.spec
     (λ c κs. search rules)  -- counts-well-requires
     (λ c κs. sized _ _ _ c.before.counts-well.ensures c.if1.true)  -- check-pipeline-requires
     (λ c. search rules)  -- enum_told

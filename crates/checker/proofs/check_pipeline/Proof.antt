@@ -5,9 +5,9 @@ use Rattle.checker.proofs.Judged.{judged, passed}
 use Rattle.checker.proofs.check_pipeline.Statement.{statement}
 use Rattle.checker.proofs.check_pipeline.Tie as tie
 
-pub check-pipeline-spec : {M : Type 1} → statement M
+pub check_pipeline_spec : {M : Type 1} → statement M
 unfolding pipeline_rows
-check-pipeline-spec = tie.close (tie.spec
+check_pipeline_spec = tie.close (tie.spec
     (λ c κs. search rules)  -- first-width-requires
     (λ c κs. search rules)  -- field-count-requires
     (λ c. search judged)  -- returns

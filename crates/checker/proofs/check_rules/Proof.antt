@@ -5,9 +5,9 @@ use Rattle.checker.proofs.Judged.{judged}
 use Rattle.checker.proofs.check_rules.Statement.{statement}
 use Rattle.checker.proofs.check_rules.Tie as tie
 
-pub check-rules-spec : {M : Type 1} → statement M
+pub check_rules_spec : {M : Type 1} → statement M
 unfolding rule_rows
-check-rules-spec = tie.close (tie.spec
+check_rules_spec = tie.close (tie.spec
     (λ c κs. search rules)  -- first-rule-requires
     (λ c κs. search rules)  -- rule-count-requires
     (λ c. search judged)  -- returns

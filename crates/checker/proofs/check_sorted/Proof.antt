@@ -5,9 +5,9 @@ use Rattle.checker.proofs.Judged.{judged, passed, passes_row}
 use Rattle.checker.proofs.check_sorted.Statement.{statement}
 use Rattle.checker.proofs.check_sorted.Tie as tie
 
-pub check-sorted-spec : {M : Type 1} → statement M
+pub check_sorted_spec : {M : Type 1} → statement M
 unfolding sorted_rows
-check-sorted-spec = tie.close (tie.spec
+check_sorted_spec = tie.close (tie.spec
     (λ c κs. search rules)  -- first-action-requires
     (λ c κs. search rules)  -- action-count-requires
     (λ c. search judged)  -- returns

@@ -5,9 +5,9 @@ use Rattle.checker.proofs.Judged.{judged, passed}
 use Rattle.checker.proofs.check_trees.Statement.{statement}
 use Rattle.checker.proofs.check_trees.Tie as tie
 
-pub check-trees-spec : {M : Type 1} → statement M
+pub check_trees_spec : {M : Type 1} → statement M
 unfolding tree_rows
-check-trees-spec = tie.close (tie.spec
+check_trees_spec = tie.close (tie.spec
     (λ c κs. search rules)  -- root-requires
     (λ c κs. search rules)  -- statement-at-requires
     (λ c. search judged)  -- returns

@@ -5,9 +5,9 @@ use Rattle.model.specs.Refusals.{counts_well}
 use Rattle.checker.proofs.counts_well.Statement.{statement}
 use Rattle.checker.proofs.counts_well.Tie as tie
 
-pub counts-well-spec : {M : Type 1} → statement M
+pub counts_well_spec : {M : Type 1} → statement M
 unfolding counts_well
-counts-well-spec = tie.close (tie.spec
+counts_well_spec = tie.close (tie.spec
     (λ c. rw (lt-leb _ _ c.if1.true))  -- returns
     (λ c κs. search rules)  -- limits-well-requires
     (λ c κs. search rules)  -- pipeline-length-requires

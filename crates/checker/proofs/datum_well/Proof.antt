@@ -5,8 +5,8 @@ use Rattle.model.proofs.Accepted.{parameter_narrow}
 use Rattle.checker.proofs.datum_well.Statement.{statement}
 use Rattle.checker.proofs.datum_well.Tie as tie
 
-pub datum-well-spec : {M : Type 1} → statement M
-datum-well-spec = tie.close (tie.spec
+pub datum_well_spec : {M : Type 1} → statement M
+datum_well_spec = tie.close (tie.spec
     (λ c κs. search rules)  -- wide-requires
     (λ c κs. search rules)  -- parameter-width-requires
     (λ c κs. search rules)  -- parameter-count-requires

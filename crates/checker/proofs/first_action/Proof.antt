@@ -13,8 +13,8 @@ invariant-loop p codes count i₀ i = Searched (action_row p (pipeline_sorts p))
 abbrev decreases-loop : tie.decreases-loop
 decreases-loop p codes count i₀ i = count - i
 
-pub first-action-spec : {M : Type 1} → statement M
-first-action-spec = tie.close (tie.spec invariant-loop decreases-loop
+pub first_action_spec : {M : Type 1} → statement M
+first_action_spec = tie.close (tie.spec invariant-loop decreases-loop
     (λ c κs. search rules)  -- action-count-requires
     (λ c. begins _ _ c.action-count.ensures)  -- loop-holds
     (λ c κs. (search rules, (search rules, omega (arith, c.before.loop.invariant.whole))))  -- action-well-requires

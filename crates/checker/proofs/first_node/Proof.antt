@@ -5,8 +5,8 @@ use Rattle.checker.proofs.Passed.{narrow-words, nodes_found}
 use Rattle.checker.proofs.first_node.Statement.{statement}
 use Rattle.checker.proofs.first_node.Tie as tie
 
-pub first-node-spec : {M : Type 1} → statement M
-first-node-spec = tie.close (tie.spec
+pub first_node_spec : {M : Type 1} → statement M
+first_node_spec = tie.close (tie.spec
     (λ c κs. (search rules, omega arith))  -- node-place-requires
     (λ c κs. search rules)  -- widths-requires
     (λ c κs. search rules)  -- node-count-requires

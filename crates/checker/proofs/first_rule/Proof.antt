@@ -13,8 +13,8 @@ invariant-loop p r count i₀ i = Searched (rule_row p r) count i
 abbrev decreases-loop : tie.decreases-loop
 decreases-loop p r count i₀ i = count - i
 
-pub first-rule-spec : {M : Type 1} → statement M
-first-rule-spec = tie.close (tie.spec invariant-loop decreases-loop
+pub first_rule_spec : {M : Type 1} → statement M
+first_rule_spec = tie.close (tie.spec invariant-loop decreases-loop
     (λ c κs. search rules)  -- rule-count-requires
     (λ c. begins _ _ c.rule-count.ensures)  -- loop-holds
     (λ c κs. (search rules, (search rules, (search rules, (search rules, omega (arith, c.before.loop.invariant.whole))))))  -- rule-well-requires

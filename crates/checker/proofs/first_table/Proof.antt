@@ -13,8 +13,8 @@ invariant-loop p count i₀ i = Searched (table_row p) count i
 abbrev decreases-loop : tie.decreases-loop
 decreases-loop p count i₀ i = count - i
 
-pub first-table-spec : {M : Type 1} → statement M
-first-table-spec = tie.close (tie.spec invariant-loop decreases-loop
+pub first_table_spec : {M : Type 1} → statement M
+first_table_spec = tie.close (tie.spec invariant-loop decreases-loop
     (λ c κs. search rules)  -- table-count-requires
     (λ c. begins _ _ c.table-count.ensures)  -- loop-holds
     (λ c κs. (search rules, (search rules, omega (arith, c.before.loop.invariant.whole))))  -- table-well-requires

@@ -13,8 +13,8 @@ invariant-loop p count i₀ i = Searched (field_row p) count i
 abbrev decreases-loop : tie.decreases-loop
 decreases-loop p count i₀ i = count - i
 
-pub first-width-spec : {M : Type 1} → statement M
-first-width-spec = tie.close (tie.spec invariant-loop decreases-loop
+pub first_width_spec : {M : Type 1} → statement M
+first_width_spec = tie.close (tie.spec invariant-loop decreases-loop
     (λ c κs. search rules)  -- field-count-requires
     (λ c. begins _ _ c.field-count.ensures)  -- loop-holds
     (λ c κs. (search rules, omega (arith, c.before.loop.invariant.whole)))  -- width-requires

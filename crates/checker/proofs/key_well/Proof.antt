@@ -3,8 +3,8 @@ use borrow.Author.Rules.{rules}
 use Rattle.checker.proofs.key_well.Statement.{statement}
 use Rattle.checker.proofs.key_well.Tie as tie
 
-pub key-well-spec : {M : Type 1} → statement M
-key-well-spec = tie.close (tie.spec
+pub key_well_spec : {M : Type 1} → statement M
+key_well_spec = tie.close (tie.spec
     (λ c κs. search rules)  -- wide-requires
     (λ c κs. search rules)  -- key-requires
     (λ c κs. search rules)  -- key-count-requires

@@ -4,9 +4,9 @@ use borrow.Author.Rules.{rules}
 use Rattle.checker.proofs.keys_well.Statement.{statement}
 use Rattle.checker.proofs.keys_well.Tie as tie
 
-pub keys-well-spec : {M : Type 1} → statement M
+pub keys_well_spec : {M : Type 1} → statement M
 unfolding every
-keys-well-spec = tie.close (tie.spec
+keys_well_spec = tie.close (tie.spec
     (λ c κs. search rules)  -- key-well-requires
     (λ c κs. search rules)  -- key-well-requires-2
     (λ c κs. search rules)  -- both-requires

@@ -3,8 +3,8 @@ use borrow.Author.Rules.{rules}
 use Rattle.checker.proofs.limits_well.Statement.{statement}
 use Rattle.checker.proofs.limits_well.Tie as tie
 
-pub limits-well-spec : {M : Type 1} → statement M
-limits-well-spec = tie.close (tie.spec
+pub limits_well_spec : {M : Type 1} → statement M
+limits_well_spec = tie.close (tie.spec
     (λ c. search rules)  -- shared-slice-read-within
     (λ c κs. search rules)  -- within-requires
     (λ c. search rules)  -- shared-slice-read-within-2

@@ -5,8 +5,8 @@ use borrow.Author.Rules.{rules}
 use Rattle.checker.proofs.pair_well.Statement.{statement}
 use Rattle.checker.proofs.pair_well.Tie as tie
 
-pub pair-well-spec : {M : Type 1} → statement M
-pair-well-spec = tie.close (tie.spec
+pub pair_well_spec : {M : Type 1} → statement M
+pair_well_spec = tie.close (tie.spec
     (λ c κs. search rules)  -- wide-requires
     (λ c κs. search rules)  -- value-requires
     (λ c κs. search rules)  -- mask-requires

@@ -5,9 +5,9 @@ use borrow.Author.Rules.{rules}
 use Rattle.checker.proofs.pairs_well.Statement.{statement}
 use Rattle.checker.proofs.pairs_well.Tie as tie
 
-pub pairs-well-spec : {M : Type 1} → statement M
+pub pairs_well_spec : {M : Type 1} → statement M
 unfolding every
-pairs-well-spec = tie.close (tie.spec
+pairs_well_spec = tie.close (tie.spec
     (λ c κs. (search rules, (search rules, (search rules, (search rules, (search rules, (search rules, omega arith)))))))  -- pair-well-requires
     (λ c κs. (search rules, (search rules, (search rules, (search rules, (search rules, (search rules, omega arith)))))))  -- pair-well-requires-2
     (λ c κs. search rules)  -- both-requires

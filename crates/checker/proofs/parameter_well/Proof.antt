@@ -3,8 +3,8 @@ use borrow.Author.Rules.{rules}
 use Rattle.checker.proofs.parameter_well.Statement.{statement}
 use Rattle.checker.proofs.parameter_well.Tie as tie
 
-pub parameter-well-spec : {M : Type 1} → statement M
-parameter-well-spec = tie.close (tie.spec
+pub parameter_well_spec : {M : Type 1} → statement M
+parameter_well_spec = tie.close (tie.spec
     (λ c κs. search rules)  -- wide-requires
     (λ c κs. search rules)  -- parameter-width-requires
     (λ c κs. search rules)  -- parameter-count-requires

@@ -5,8 +5,8 @@ use borrow.Author.Rules.{rules}
 use Rattle.checker.proofs.rule_well.Statement.{statement}
 use Rattle.checker.proofs.rule_well.Tie as tie
 
-pub rule-well-spec : {M : Type 1} → statement M
-rule-well-spec = tie.close (tie.spec
+pub rule_well_spec : {M : Type 1} → statement M
+rule_well_spec = tie.close (tie.spec
     (λ c κs. search rules)  -- table-of-requires
     (λ c κs. search rules)  -- wide-requires
     (λ c κs. search rules)  -- table-count-requires

@@ -7,8 +7,8 @@ use Rattle.checker.proofs.Passed.{sorts-length}
 use Rattle.checker.proofs.statement_at.Statement.{statement}
 use Rattle.checker.proofs.statement_at.Tie as tie
 
-pub statement-at-spec : {M : Type 1} → statement M
-statement-at-spec = tie.close (tie.spec
+pub statement_at_spec : {M : Type 1} → statement M
+statement_at_spec = tie.close (tie.spec
     (λ c κs. search rules)  -- node-count-requires
     (λ c κs. search rules)  -- sort-in-requires
     (λ c κs. search rules)  -- is-statement-requires

@@ -4,9 +4,9 @@ use borrow.Author.Rules.{rules}
 use Rattle.checker.proofs.table_well.Statement.{statement}
 use Rattle.checker.proofs.table_well.Tie as tie
 
-pub table-well-spec : {M : Type 1} → statement M
+pub table_well_spec : {M : Type 1} → statement M
 unfolding table_well
-table-well-spec = tie.close (tie.spec
+table_well_spec = tie.close (tie.spec
     (λ c κs. search rules)  -- key-count-requires
     (λ c κs. search rules)  -- keys-well-requires
     (λ c κs. search rules)  -- both-requires

@@ -26,8 +26,8 @@ use Rattle.forms.proofs.+chain_at_choice_at_rest_at_rule_at_sequence_at_statemen
 use Rattle.forms.proofs.+chain_at_choice_at_rest_at_rule_at_sequence_at_statement_at.Proof.Cycle.{μ-chain-at, μ-choice-at, μ-rest-at, μ-rule-at, μ-sequence-at, μ-statement-at, chain-at-at, choice-at-at, rest-at-at, rule-at-at, sequence-at-at, statement-at-at, chain-at-calls, choice-at-calls, rest-at-calls, rule-at-calls, sequence-at-calls, statement-at-calls, here}
 mod Cycle
 
-pub +chain-at-choice-at-rest-at-rule-at-sequence-at-statement-at-spec : {M : Type 1} → statement M
-+chain-at-choice-at-rest-at-rule-at-sequence-at-statement-at-spec = close μ-chain-at μ-choice-at μ-rest-at μ-rule-at μ-sequence-at μ-statement-at
+pub +chain_at_choice_at_rest_at_rule_at_sequence_at_statement_at_spec : {M : Type 1} → statement M
++chain_at_choice_at_rest_at_rule_at_sequence_at_statement_at_spec = close μ-chain-at μ-choice-at μ-rest-at μ-rule-at μ-sequence-at μ-statement-at
     (λ t. chain-at-lts.spec (chain-at-calls t) (chain-at-at t) chain-at.Post
     (λ c. search rules)  -- enum-known-hit
     (λ c κs.

@@ -6,8 +6,8 @@ use Rattle.forms.proofs.Writes.{few-variables, assign_writes}
 use Rattle.forms.proofs.assign_at.Statement.{statement}
 use Rattle.forms.proofs.assign_at.Tie as tie
 
-pub assign-at-spec : {M : Type 1} → statement M
-assign-at-spec = tie.close (tie.spec
+pub assign_at_spec : {M : Type 1} → statement M
+assign_at_spec = tie.close (tie.spec
     (λ c κs. let s = c.before.before.before.before in (s.requires.0, (s.requires.1.0, (s.requires.1.1.1.0, value_expression _ s.requires.1.1.1.1.0))))  -- tree-behind-requires
     (λ c κs. search rules)  -- node-requires
     (λ c κs. search rules)  -- node-behind-requires

@@ -5,8 +5,8 @@ use Rattle.forms.proofs.Writes.{guard_writes}
 use Rattle.forms.proofs.guard_at.Statement.{statement}
 use Rattle.forms.proofs.guard_at.Tie as tie
 
-pub guard-at-spec : {M : Type 1} → statement M
-guard-at-spec = tie.close (tie.spec
+pub guard_at_spec : {M : Type 1} → statement M
+guard_at_spec = tie.close (tie.spec
     (λ c κs. let s = c.before.before.before.before.before.before in let h = few-fields _ _ s.requires.0 in (whole _ _ s.requires.0, search rules))  -- fields-requires
     (λ c κs. search rules)  -- guard-behind-requires
     (λ c. search rules)  -- same-length

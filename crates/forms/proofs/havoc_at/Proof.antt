@@ -4,8 +4,8 @@ use Rattle.forms.proofs.Writes.{few-variables, havoc_writes}
 use Rattle.forms.proofs.havoc_at.Statement.{statement}
 use Rattle.forms.proofs.havoc_at.Tie as tie
 
-pub havoc-at-spec : {M : Type 1} → statement M
-havoc-at-spec = tie.close (tie.spec
+pub havoc_at_spec : {M : Type 1} → statement M
+havoc_at_spec = tie.close (tie.spec
     (λ c κs. search rules)  -- node-requires
     (λ c κs. search rules)  -- node-behind-requires
     (λ c κs. let s = c.before.before.before.before.before.before.before.before.before in (s.requires.0, (s.requires.1.0, (s.requires.1.1.0, few-variables s.requires.1.1.1.1 s.requires.1.1.1.0))))  -- fresh-requires

@@ -4,8 +4,8 @@ use Rattle.forms.proofs.Writes.{join-behind}
 use Rattle.forms.proofs.join_behind.Statement.{statement}
 use Rattle.forms.proofs.join_behind.Tie as tie
 
-pub join-behind-spec : {M : Type 1} → statement M
-join-behind-spec = tie.close (tie.spec
+pub join_behind_spec : {M : Type 1} → statement M
+join_behind_spec = tie.close (tie.spec
     (λ c κs. search rules)  -- start-requires
     (λ c. search rules)  -- mul-join
     (λ c. search rules)  -- sub-join

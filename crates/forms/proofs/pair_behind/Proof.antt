@@ -4,8 +4,8 @@ use borrow.Author.Rules.{rules}
 use Rattle.forms.proofs.pair_behind.Statement.{statement}
 use Rattle.forms.proofs.pair_behind.Tie as tie
 
-pub pair-behind-spec : {M : Type 1} → statement M
-pair-behind-spec = tie.close (tie.spec
+pub pair_behind_spec : {M : Type 1} → statement M
+pair_behind_spec = tie.close (tie.spec
     (λ c. search rules)  -- sub-node
     (λ c. search rules)  -- sub-node-2
     (λ c κs. search rules)  -- node-requires

@@ -4,8 +4,8 @@ use Rattle.forms.proofs.Writes.{skip_writes}
 use Rattle.forms.proofs.skip_at.Statement.{statement}
 use Rattle.forms.proofs.skip_at.Tie as tie
 
-pub skip-at-spec : {M : Type 1} → statement M
-skip-at-spec = tie.close (tie.spec
+pub skip_at_spec : {M : Type 1} → statement M
+skip_at_spec = tie.close (tie.spec
     (λ c κs. search rules)  -- node-requires
     (λ c κs. search rules)  -- node-behind-requires
     (λ c κs. search rules)  -- made-requires

@@ -5,8 +5,8 @@ use Rattle.forms.proofs.Writes.{test_writes}
 use Rattle.forms.proofs.tested_at.Statement.{statement}
 use Rattle.forms.proofs.tested_at.Tie as tie
 
-pub tested-at-spec : {M : Type 1} → statement M
-tested-at-spec = tie.close (tie.spec
+pub tested_at_spec : {M : Type 1} → statement M
+tested_at_spec = tie.close (tie.spec
     (λ c κs. let s = c.before.before.before in (s.requires.0, (s.requires.1.0, (s.requires.1.1.0, test_expression _ s.requires.1.1.1.0))))  -- tree-behind-requires
     (λ c. search rules)  -- sub-node
     (λ c κs. search rules)  -- node-requires

@@ -4,8 +4,8 @@ use mathlib.Core.Path.{refl}
 use Rattle.forms.proofs.tree_behind.Statement.{statement}
 use Rattle.forms.proofs.tree_behind.Tie as tie
 
-pub tree-behind-spec : {M : Type 1} → statement M
-tree-behind-spec = tie.close (tie.spec
+pub tree_behind_spec : {M : Type 1} → statement M
+tree_behind_spec = tie.close (tie.spec
     (λ c κs. let s = c.before.before.before.before.before in (s.requires.0.whole, search rules))  -- fields-requires
     (λ c κs. search rules)  -- child-behind-requires
     (λ c. search rules)  -- same-length

@@ -4,8 +4,8 @@ use Rattle.guards.proofs.Guards.{assumed, assumed_not}
 use Rattle.guards.proofs.guard_behind.Statement.{statement}
 use Rattle.guards.proofs.guard_behind.Tie as tie
 
-pub guard-behind-spec : {M : Type 1} → statement M
-guard-behind-spec = tie.close (tie.spec
+pub guard_behind_spec : {M : Type 1} → statement M
+guard_behind_spec = tie.close (tie.spec
     (λ c κs. search rules)  -- match-behind-requires
     (λ c. search rules)  -- sub-node
     (λ c κs. search rules)  -- node-requires

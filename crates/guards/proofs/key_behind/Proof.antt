@@ -4,8 +4,8 @@ use Rattle.guards.proofs.Guards.{key_asks, width_asks, pair_asks, key-nodes}
 use Rattle.guards.proofs.key_behind.Statement.{statement}
 use Rattle.guards.proofs.key_behind.Tie as tie
 
-pub key-behind-spec : {M : Type 1} → statement M
-key-behind-spec = tie.close (tie.spec
+pub key_behind_spec : {M : Type 1} → statement M
+key_behind_spec = tie.close (tie.spec
     (λ c κs. let s = c.before.before.before.before in key_asks _ _ s.requires.0 s.requires.1.0 s.requires.1.1.0 s.requires.1.1.1.0)  -- key-requires
     (λ c κs. search rules)  -- wide-requires
     (λ c κs. let s = c.before.before.before.before.before.before in width_asks _ _ s.requires.0 s.requires.1.0 s.requires.1.1.0 s.requires.1.1.1.0 c.before.key.ensures c.wide.ensures)  -- width-requires

@@ -4,8 +4,8 @@ use Rattle.guards.proofs.Guards.{masks}
 use Rattle.guards.proofs.masked_behind.Statement.{statement}
 use Rattle.guards.proofs.masked_behind.Tie as tie
 
-pub masked-behind-spec : {M : Type 1} → statement M
-masked-behind-spec = tie.close (tie.spec
+pub masked_behind_spec : {M : Type 1} → statement M
+masked_behind_spec = tie.close (tie.spec
     (λ c κs. search rules)  -- node-requires
     (λ c κs. search rules)  -- node-behind-requires
     (λ c κs. search rules)  -- over-constant-requires

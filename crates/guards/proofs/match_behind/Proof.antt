@@ -14,8 +14,8 @@ invariant-loop p r current i at nodes₀ table count to₀ j₀ nodes to j = Mat
 abbrev decreases-loop : tie.decreases-loop
 decreases-loop p r current i at nodes₀ table count to₀ j₀ nodes to j = count - j
 
-pub match-behind-spec : {M : Type 1} → statement M
-match-behind-spec = tie.close (tie.spec invariant-loop decreases-loop
+pub match_behind_spec : {M : Type 1} → statement M
+match_behind_spec = tie.close (tie.spec invariant-loop decreases-loop
     (λ c κs. search rules)  -- table-of-requires
     (λ c κs. search rules)  -- wide-requires
     (λ c κs. let s = c.before.before.before.before.before.before in (whole _ _ s.requires.0, table_there _ _ s.requires.0 s.requires.1 (c.wide.ensures ∙ c.before.table_of.ensures)))  -- key-count-requires

@@ -4,8 +4,8 @@ use Rattle.guards.proofs.Guards.{over-constant}
 use Rattle.guards.proofs.over_constant.Statement.{statement}
 use Rattle.guards.proofs.over_constant.Tie as tie
 
-pub over-constant-spec : {M : Type 1} → statement M
-over-constant-spec = tie.close (tie.spec
+pub over_constant_spec : {M : Type 1} → statement M
+over_constant_spec = tie.close (tie.spec
     (λ c κs. search rules)  -- node-requires
     (λ c κs. search rules)  -- node-behind-requires
     (λ c. search rules)  -- sub-node

@@ -4,5 +4,5 @@ use Rattle.lister.proofs.Written.{zeros}
 use Rattle.lister.proofs.file_area.Statement.{statement}
 use Rattle.lister.proofs.file_area.Tie as tie
 
-pub file-area-spec : {M : Type 1} → statement M
-file-area-spec = tie.close (tie.spec (λ c. zeros read_limit))
+pub file_area_spec : {M : Type 1} → statement M
+file_area_spec = tie.close (tie.spec (λ c. zeros read_limit))

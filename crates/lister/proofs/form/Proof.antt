@@ -7,8 +7,8 @@ use Rattle.lister.proofs.Told.{few-nodes, nodes-room, form_adds, form-refused}
 use Rattle.lister.proofs.form.Statement.{statement}
 use Rattle.lister.proofs.form.Tie as tie
 
-pub form-spec : {M : Type 1} → statement M
-form-spec = tie.close (tie.spec
+pub form_spec : {M : Type 1} → statement M
+form_spec = tie.close (tie.spec
     (λ c. search rules)  -- slice-aggregate-passify
     (λ c. search rules)  -- slice-aggregate-passify-2
     (λ c κs. search rules)  -- passify-requires

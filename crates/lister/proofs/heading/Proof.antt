@@ -4,8 +4,8 @@ use Rattle.lister.proofs.Written.{heading_adds}
 use Rattle.lister.proofs.heading.Statement.{statement}
 use Rattle.lister.proofs.heading.Tie as tie
 
-pub heading-spec : {M : Type 1} → statement M
-heading-spec = tie.close (tie.spec
+pub heading_spec : {M : Type 1} → statement M
+heading_spec = tie.close (tie.spec
     (λ c. search rules)  -- slice-aggregate-put
     (λ c κs. search rules)  -- put-requires
     (λ c κs. search rules)  -- number-requires

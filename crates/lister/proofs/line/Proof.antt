@@ -4,8 +4,8 @@ use Rattle.lister.proofs.Written.{line_adds}
 use Rattle.lister.proofs.line.Statement.{statement}
 use Rattle.lister.proofs.line.Tie as tie
 
-pub line-spec : {M : Type 1} → statement M
-line-spec = tie.close (tie.spec
+pub line_spec : {M : Type 1} → statement M
+line_spec = tie.close (tie.spec
     (λ c κs. search rules)  -- number-requires
     (λ c. search rules)  -- cast-number
     (λ c κs. search rules)  -- number-requires-2

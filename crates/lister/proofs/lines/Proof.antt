@@ -12,8 +12,8 @@ invariant-loop nodes count at out₀ end₀ i₀ out end i = Listed (plain_node 
 abbrev decreases-loop : tie.decreases-loop
 decreases-loop nodes count at out₀ end₀ i₀ out end i = count - i
 
-pub lines-spec : {M : Type 1} → statement M
-lines-spec = tie.close (tie.spec invariant-loop decreases-loop
+pub lines_spec : {M : Type 1} → statement M
+lines_spec = tie.close (tie.spec invariant-loop decreases-loop
     (λ c. begins _ _ _ _ (search rules))  -- loop-holds
     (λ c. search rules)  -- mul-node-at
     (λ c κs. search rules)  -- node-at-requires

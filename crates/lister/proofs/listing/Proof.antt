@@ -4,8 +4,8 @@ use Rattle.lister.proofs.Told.{pipeline-room, pipeline-counted, rules-room, rule
 use Rattle.lister.proofs.listing.Statement.{statement}
 use Rattle.lister.proofs.listing.Tie as tie
 
-pub listing-spec : {M : Type 1} → statement M
-listing-spec = tie.close (tie.spec
+pub listing_spec : {M : Type 1} → statement M
+listing_spec = tie.close (tie.spec
     (λ c. search rules)  -- slice-aggregate-load
     (λ c. search rules)  -- slice-aggregate-load-2
     (λ c κs. search rules)  -- load-requires

@@ -5,8 +5,8 @@ use Rattle.lister.proofs.Written.{number-room, last-room, number_end}
 use Rattle.lister.proofs.number.Statement.{statement}
 use Rattle.lister.proofs.number.Tie as tie
 
-pub number-spec : {M : Type 1} → statement M
-number-spec = tie.close (tie.spec
+pub number_spec : {M : Type 1} → statement M
+number_spec = tie.close (tie.spec
     (λ c κs. search (rules, number-room))  -- decimal-requires
     (λ c. search rules)  -- slice-aggregate-put
     (λ c κs. search (rules, last-room))  -- put-requires

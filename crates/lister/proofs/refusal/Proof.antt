@@ -4,8 +4,8 @@ use Rattle.lister.proofs.Written.{refusal_adds}
 use Rattle.lister.proofs.refusal.Statement.{statement}
 use Rattle.lister.proofs.refusal.Tie as tie
 
-pub refusal-spec : {M : Type 1} → statement M
-refusal-spec = tie.close (tie.spec
+pub refusal_spec : {M : Type 1} → statement M
+refusal_spec = tie.close (tie.spec
     (λ c. search rules)  -- slice-aggregate-put
     (λ c κs. search rules)  -- put-requires
     (λ c κs. search rules)  -- number-requires

@@ -4,5 +4,5 @@ use Rattle.lister.proofs.Written.{zeros}
 use Rattle.lister.proofs.text_area.Statement.{statement}
 use Rattle.lister.proofs.text_area.Tie as tie
 
-pub text-area-spec : {M : Type 1} → statement M
-text-area-spec = tie.close (tie.spec (λ c. zeros text_room))
+pub text_area_spec : {M : Type 1} → statement M
+text_area_spec = tie.close (tie.spec (λ c. zeros text_room))

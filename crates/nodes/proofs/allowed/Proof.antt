@@ -3,8 +3,8 @@ use borrow.Author.Rules.{rules}
 use Rattle.nodes.proofs.allowed.Statement.{statement}
 use Rattle.nodes.proofs.allowed.Tie as tie
 
-pub allowed-spec : {M : Type 1} → statement M
-allowed-spec = tie.close (tie.spec
+pub allowed_spec : {M : Type 1} → statement M
+allowed_spec = tie.close (tie.spec
     (λ c. search rules)  -- enum-told
     (λ c. search rules)  -- enum-told-2
     (λ c κs. search rules)  -- pipeline-only-requires

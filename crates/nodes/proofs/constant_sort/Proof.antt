@@ -7,8 +7,8 @@ use borrow.Author.Rules.{rules}
 use Rattle.nodes.proofs.constant_sort.Statement.{statement}
 use Rattle.nodes.proofs.constant_sort.Tie as tie
 
-pub constant-sort-spec : {M : Type 1} → statement M
-constant-sort-spec = tie.close (tie.spec
+pub constant_sort_spec : {M : Type 1} → statement M
+constant_sort_spec = tie.close (tie.spec
     (λ c κs. search rules)  -- is-width-requires
     (λ c κs. (width-true _ (sym c.before.is-width.ensures ∙ c.if1.true)).1)  -- fits-requires
     (λ c κs. omega (arith, (width-true c.before.before.before.args.width (sym c.before.before.is-width.ensures ∙ c.before.if1.true)).1))  -- value-code-requires

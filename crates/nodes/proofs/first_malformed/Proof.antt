@@ -19,8 +19,8 @@ decreases-loop stage ws from count widths tables codes₀ i₀ codes i = count -
 sort-own : (c : tie.After-sort-of invariant-loop decreases-loop) → sort_from c.sort-of.result ≡ own c.before.before.before.before.before.before.before.before.before.loop.invariant.1
 sort-own c = search (kept_own, kept_child, c.sort-of.ensures)
 
-pub first-malformed-spec : {M : Type 1} → statement M
-first-malformed-spec = tie.close (tie.spec invariant-loop decreases-loop
+pub first_malformed_spec : {M : Type 1} → statement M
+first_malformed_spec = tie.close (tie.spec invariant-loop decreases-loop
     (λ c. (refl, kept_none _ _ _ _ _ _ _ c.before.before.before.requires.1.1))  -- loop-holds
     (λ c. omega arith)  -- mul-node-at
     (λ c. omega arith)  -- add-node-at

@@ -3,7 +3,7 @@ use borrow.Author.Rules.{rules}
 use Rattle.nodes.proofs.is_value.Statement.{statement}
 use Rattle.nodes.proofs.is_value.Tie as tie
 
-pub is-value-spec : {M : Type 1} → statement M
-is-value-spec = tie.close (tie.spec
+pub is_value_spec : {M : Type 1} → statement M
+is_value_spec = tie.close (tie.spec
     (λ c κs. search rules)  -- width-of-requires
     (λ c. cc))  -- returns

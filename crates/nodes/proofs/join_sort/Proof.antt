@@ -3,8 +3,8 @@ use borrow.Author.Rules.{rules}
 use Rattle.nodes.proofs.join_sort.Statement.{statement}
 use Rattle.nodes.proofs.join_sort.Tie as tie
 
-pub join-sort-spec : {M : Type 1} → statement M
-join-sort-spec = tie.close (tie.spec
+pub join_sort_spec : {M : Type 1} → statement M
+join_sort_spec = tie.close (tie.spec
     (λ c κs. search rules)  -- width-of-requires
     (λ c κs. search rules)  -- width-of-requires-2
     (λ c. search rules)  -- add-total

@@ -3,8 +3,8 @@ use Rattle.nodes.proofs.Numbers.{numbers}
 use Rattle.nodes.proofs.kind_in.Statement.{statement}
 use Rattle.nodes.proofs.kind_in.Tie as tie
 
-pub kind-in-spec : {M : Type 1} → statement M
-kind-in-spec = tie.close (tie.spec
+pub kind_in_spec : {M : Type 1} → statement M
+kind_in_spec = tie.close (tie.spec
     (λ c. search numbers)  -- returns
     (λ c. search numbers)  -- returns-2
     (λ c. search numbers)  -- returns-3

@@ -7,8 +7,8 @@ use borrow.Author.Rules.{rules}
 use Rattle.nodes.proofs.parameter_sort.Statement.{statement}
 use Rattle.nodes.proofs.parameter_sort.Tie as tie
 
-pub parameter-sort-spec : {M : Type 1} → statement M
-parameter-sort-spec = tie.close (tie.spec
+pub parameter_sort_spec : {M : Type 1} → statement M
+parameter_sort_spec = tie.close (tie.spec
     (λ c κs. search rules)  -- is-width-requires
     (λ c κs. omega (arith, (width-true c.before.before.args.width (sym c.before.is-width.ensures ∙ c.if1.true)).1))  -- value-code-requires
     (λ c. rw (← c.before.before.is-width.ensures, c.before.if1.true) c.value-code.ensures)  -- returns

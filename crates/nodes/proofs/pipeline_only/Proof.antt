@@ -4,9 +4,9 @@ use Rattle.nodes.proofs.Numbers.{pipeline-numbers}
 use Rattle.nodes.proofs.pipeline_only.Statement.{statement}
 use Rattle.nodes.proofs.pipeline_only.Tie as tie
 
-pub pipeline-only-spec : {M : Type 1} → statement M
+pub pipeline_only_spec : {M : Type 1} → statement M
 unfolding times
-pipeline-only-spec = tie.close (tie.spec
+pipeline_only_spec = tie.close (tie.spec
     (λ c. search pipeline-numbers)  -- returns
     (λ c. search pipeline-numbers)  -- returns-2
     (λ c. search pipeline-numbers)  -- returns-3

@@ -4,8 +4,8 @@ use borrow.Author.Rules.{rules}
 use Rattle.nodes.proofs.roles.Statement.{statement}
 use Rattle.nodes.proofs.roles.Tie as tie
 
-pub roles-spec : {M : Type 1} → statement M
-roles-spec = tie.close (tie.spec
+pub roles_spec : {M : Type 1} → statement M
+roles_spec = tie.close (tie.spec
     (λ c. search rules)  -- enum-told
     (λ c κs. search rules)  -- are-requires
     (λ c. search rules)  -- enum-told-2

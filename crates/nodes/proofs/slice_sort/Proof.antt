@@ -5,8 +5,8 @@ use borrow.Author.Rules.{rules}
 use Rattle.nodes.proofs.slice_sort.Statement.{statement}
 use Rattle.nodes.proofs.slice_sort.Tie as tie
 
-pub slice-sort-spec : {M : Type 1} → statement M
-slice-sort-spec = tie.close (tie.spec
+pub slice_sort_spec : {M : Type 1} → statement M
+slice_sort_spec = tie.close (tie.spec
     (λ c κs. search rules)  -- width-of-requires
     (λ c. search rules)  -- add-value-code
     (λ c κs. search rules)  -- value-code-requires

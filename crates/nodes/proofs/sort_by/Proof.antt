@@ -6,8 +6,8 @@ use borrow.Author.Rules.{rules}
 use Rattle.nodes.proofs.sort_by.Statement.{statement}
 use Rattle.nodes.proofs.sort_by.Tie as tie
 
-pub sort-by-spec : {M : Type 1} → statement M
-sort-by-spec = tie.close (tie.spec
+pub sort_by_spec : {M : Type 1} → statement M
+sort_by_spec = tie.close (tie.spec
     (λ c. search rules)  -- enum-told
     (λ c κs. search rules)  -- constant-sort-requires
     (λ c. search rules)  -- enum-told-2

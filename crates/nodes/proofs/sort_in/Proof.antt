@@ -5,8 +5,8 @@ use borrow.Author.Rules.{rules}
 use Rattle.nodes.proofs.sort_in.Statement.{statement}
 use Rattle.nodes.proofs.sort_in.Tie as tie
 
-pub sort-in-spec : {M : Type 1} → statement M
-sort-in-spec = tie.close (tie.spec
+pub sort_in_spec : {M : Type 1} → statement M
+sort_in_spec = tie.close (tie.spec
     (λ c. search rules)  -- shared-slice-read-result
     (λ c. search branches)  -- returns
     (λ c. search (branches, malformed_byte)))  -- returns-2

@@ -6,9 +6,9 @@ use borrow.Author.Rules.{rules}
 use Rattle.nodes.proofs.sort_of.Statement.{statement}
 use Rattle.nodes.proofs.sort_of.Tie as tie
 
-pub sort-of-spec : {M : Type 1} → statement M
+pub sort_of_spec : {M : Type 1} → statement M
 unfolding sort_of
-sort-of-spec = tie.close (tie.spec
+sort_of_spec = tie.close (tie.spec
     (λ c κs. search rules)  -- kind-of-requires
     (λ c κs. search rules)  -- unused-zero-requires
     (λ c κs. search rules)  -- sort-by-requires

@@ -6,8 +6,8 @@ use borrow.Author.Rules.{rules}
 use Rattle.nodes.proofs.width_of.Statement.{statement}
 use Rattle.nodes.proofs.width_of.Tie as tie
 
-pub width-of-spec : {M : Type 1} → statement M
-width-of-spec = tie.close (tie.spec
+pub width_of_spec : {M : Type 1} → statement M
+width_of_spec = tie.close (tie.spec
     (λ c. search rules)  -- sub-result
     (λ c. sym (byte_width c.before.args.code))  -- returns
     (λ c. omega (arith, byte_width c.before.args.code)))  -- returns-2

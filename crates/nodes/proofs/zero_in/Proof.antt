@@ -3,8 +3,8 @@ use borrow.Author.Rules.{rules}
 use Rattle.nodes.proofs.zero_in.Statement.{statement}
 use Rattle.nodes.proofs.zero_in.Tie as tie
 
-pub zero-in-spec : {M : Type 1} → statement M
-zero-in-spec = tie.close (tie.spec
+pub zero_in_spec : {M : Type 1} → statement M
+zero_in_spec = tie.close (tie.spec
     (λ c. search rules)  -- enum-told
     (λ c. search rules)  -- enum-told-2
     (λ c. search rules)  -- enum-told-3

@@ -5,8 +5,8 @@ use borrow.Author.Rules.{rules}
 use Rattle.octets.proofs.byte.Statement.{statement}
 use Rattle.octets.proofs.byte.Tie as tie
 
-pub byte-spec : {M : Type 1} → statement M
-byte-spec = tie.close (tie.spec
+pub byte_spec : {M : Type 1} → statement M
+byte_spec = tie.close (tie.spec
     (λ c. search rules)  -- shared-slice-read-result
     (λ c. omega (arith, c.shared-slice-known.given c.before.args.at))  -- cast-result
     (λ c. (refl, omega (arith, c.shared-slice-known.given c.before.args.at))))  -- returns

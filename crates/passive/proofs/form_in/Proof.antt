@@ -6,8 +6,8 @@ use Rattle.passive.proofs.Formed.{few-first, form-counts, form_leaves}
 use Rattle.passive.proofs.form_in.Statement.{statement}
 use Rattle.passive.proofs.form_in.Tie as tie
 
-pub form-in-spec : {M : Type 1} → statement M
-form-in-spec = tie.close (tie.spec
+pub form_in_spec : {M : Type 1} → statement M
+form_in_spec = tie.close (tie.spec
     (λ c κs. whole _ _ c.before.before.before.before.requires)  -- widths-requires
     (λ c κs. search rules)  -- put-room-requires
     (λ c κs. whole _ _ c.before.before.before.before.before.before.before.before.before.requires)  -- root-requires

@@ -12,8 +12,8 @@ invariant-loop p current₀ i₀ current i = Numbered current i
 abbrev decreases-loop : tie.decreases-loop
 decreases-loop p current₀ i₀ current i = 32 - i
 
-pub packet-variables-spec : {M : Type 1} → statement M
-packet-variables-spec = tie.close (tie.spec invariant-loop decreases-loop
+pub packet_variables_spec : {M : Type 1} → statement M
+packet_variables_spec = tie.close (tie.spec invariant-loop decreases-loop
     (λ c. none_numbered _ (search rules))  -- loop-holds
     (λ c. search rules)  -- cast-current
     (λ c. search rules)  -- mul-current

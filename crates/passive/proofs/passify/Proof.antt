@@ -4,8 +4,8 @@ use Rattle.passive.proofs.Formed.{check-accepted, check-refused}
 use Rattle.passive.proofs.passify.Statement.{statement}
 use Rattle.passive.proofs.passify.Tie as tie
 
-pub passify-spec : {M : Type 1} → statement M
-passify-spec = tie.close (tie.spec
+pub passify_spec : {M : Type 1} → statement M
+passify_spec = tie.close (tie.spec
     (λ c κs. search rules)  -- check-requires
     (λ c. search rules)  -- enum-told
     (λ c κs. search check-accepted)  -- passify-checked-requires

@@ -5,8 +5,8 @@ use Rattle.passive.proofs.Formed.{too_large, no-node-room, no-width-room, passes
 use Rattle.passive.proofs.passify_checked.Statement.{statement}
 use Rattle.passive.proofs.passify_checked.Tie as tie
 
-pub passify-checked-spec : {M : Type 1} → statement M
-passify-checked-spec = tie.close (tie.spec
+pub passify_checked_spec : {M : Type 1} → statement M
+passify_checked_spec = tie.close (tie.spec
     (λ c κs. search rules)  -- counted-requires
     (λ c. let s = c.before.before.before.before.before.before.before in too_large s.args.p.now s.args.r.now s.args.nodes.now s.args.widths.now s.requires c.before.before.counted.ensures c.if1.true)  -- returns
     (λ c. search rules)  -- cast-count

@@ -67,8 +67,8 @@ here t c =
       are = c.roles.ensures;
     }
 
-pub +child-behind-tree-at-spec : {M : Type 1} → statement M
-+child-behind-tree-at-spec = close μ-child-behind μ-tree-at
+pub +child_behind_tree_at_spec : {M : Type 1} → statement M
++child_behind_tree_at_spec = close μ-child-behind μ-tree-at
     (λ t. child-behind-lts.spec (child-behind-calls t) (child-behind-at t) child-behind.Post
     (λ c. search rules)  -- enum_told
     (λ c κs. search rules)  -- start-requires

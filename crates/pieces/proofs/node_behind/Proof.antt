@@ -6,8 +6,8 @@ use Rattle.pieces.proofs.Pieces.{lent_behind, above_none}
 use Rattle.pieces.proofs.node_behind.Statement.{statement}
 use Rattle.pieces.proofs.node_behind.Tie as tie
 
-pub node-behind-spec : {M : Type 1} → statement M
-node-behind-spec = tie.close (tie.spec
+pub node_behind_spec : {M : Type 1} → statement M
+node_behind_spec = tie.close (tie.spec
     (λ c κs. search rules)  -- start-requires
     (λ c. search rules)  -- mul-put-node
     (λ c. search rules)  -- sub-put-node

@@ -3,8 +3,8 @@ use borrow.Author.Rules.{rules}
 use Rattle.pieces.proofs.placed.Statement.{statement}
 use Rattle.pieces.proofs.placed.Tie as tie
 
-pub placed-spec : {M : Type 1} → statement M
-placed-spec = tie.close (tie.spec
+pub placed_spec : {M : Type 1} → statement M
+placed_spec = tie.close (tie.spec
     (λ c κs. search rules)  -- word-of-requires
     (λ c κs. search rules)  -- word-of-requires-2
     (λ c κs. search rules)  -- word-of-requires-3

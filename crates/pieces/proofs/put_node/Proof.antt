@@ -6,9 +6,9 @@ use Rattle.model.specs.Blocks.{words}
 use Rattle.pieces.proofs.put_node.Statement.{statement}
 use Rattle.pieces.proofs.put_node.Tie as tie
 
-pub put-node-spec : {M : Type 1} → statement M
+pub put_node_spec : {M : Type 1} → statement M
 unfolding words
-put-node-spec = tie.close (tie.spec
+put_node_spec = tie.close (tie.spec
     (λ c. search rules)  -- slice-aggregate-put-words
     (λ c κs. search rules)  -- put-words-requires
     (λ c. search rules)  -- same-length

@@ -4,8 +4,8 @@ use borrow.Author.Rules.{rules}
 use Rattle.pieces.proofs.put_room.Statement.{statement}
 use Rattle.pieces.proofs.put_room.Tie as tie
 
-pub put-room-spec : {M : Type 1} → statement M
-put-room-spec = tie.close (tie.spec
+pub put_room_spec : {M : Type 1} → statement M
+put_room_spec = tie.close (tie.spec
     (λ c κs. search rules)  -- put-requires
     (λ c. search rules)  -- same-length
     (λ c. search rules)  -- returns

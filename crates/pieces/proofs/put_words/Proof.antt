@@ -4,8 +4,8 @@ use Rattle.pieces.proofs.Pieces.{beyond, put-words}
 use Rattle.pieces.proofs.put_words.Statement.{statement}
 use Rattle.pieces.proofs.put_words.Tie as tie
 
-pub put-words-spec : {M : Type 1} → statement M
-put-words-spec = tie.close (tie.spec
+pub put_words_spec : {M : Type 1} → statement M
+put_words_spec = tie.close (tie.spec
     (λ c nodes e. beyond nodes _ _ _ (search rules))  -- returns
     (λ c κs. search rules)  -- put-room-requires
     (λ c. search rules)  -- cast-result

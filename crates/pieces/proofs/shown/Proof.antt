@@ -4,8 +4,8 @@ use Rattle.pieces.proofs.Expressions.{shows}
 use Rattle.pieces.proofs.shown.Statement.{statement}
 use Rattle.pieces.proofs.shown.Tie as tie
 
-pub shown-spec : {M : Type 1} → statement M
-shown-spec = tie.close (tie.spec
+pub shown_spec : {M : Type 1} → statement M
+shown_spec = tie.close (tie.spec
     (λ c κs. search rules)  -- word-in-requires
     (λ c κs. search rules)  -- node-requires
     (λ c κs. search rules)  -- word-in-requires-2

@@ -12,8 +12,8 @@ invariant-loop file run area₀ to step each i₀ area i = Records file run area
 abbrev decreases-loop : tie.decreases-loop
 decreases-loop file run area₀ to step each i₀ area i = run.count - i
 
-pub copy-run-spec : {M : Type 1} → statement M
-copy-run-spec = tie.close (tie.spec invariant-loop decreases-loop
+pub copy_run_spec : {M : Type 1} → statement M
+copy_run_spec = tie.close (tie.spec invariant-loop decreases-loop
     (λ c κs. search rules)  -- bytes-requires
     (λ c κs. search rules)  -- size-requires
     (λ c. search no-records)  -- loop-holds

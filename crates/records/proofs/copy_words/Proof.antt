@@ -11,8 +11,8 @@ invariant-loop file at count area₀ to i₀ area i = Words file at area₀ to i
 abbrev decreases-loop : tie.decreases-loop
 decreases-loop file at count area₀ to i₀ area i = count - i
 
-pub copy-words-spec : {M : Type 1} → statement M
-copy-words-spec = tie.close (tie.spec invariant-loop decreases-loop
+pub copy_words_spec : {M : Type 1} → statement M
+copy_words_spec = tie.close (tie.spec invariant-loop decreases-loop
     (λ c. (search no_words, search rules))  -- loop-holds
     (λ c. search rules)  -- mul-word
     (λ c. search rules)  -- add-word

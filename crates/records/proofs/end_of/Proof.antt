@@ -5,8 +5,8 @@ use Rattle.records.proofs.Faults.{no-root, root_and_more, too_long, whole_file}
 use Rattle.records.proofs.end_of.Statement.{statement}
 use Rattle.records.proofs.end_of.Tie as tie
 
-pub end-of-spec : {M : Type 1} → statement M
-end-of-spec = tie.close (tie.spec
+pub end_of_spec : {M : Type 1} → statement M
+end_of_spec = tie.close (tie.spec
     (λ c κs. search rules)  -- stands-requires
     (λ c κs. search rules)  -- within-limit-requires
     (λ c. search (no-root, not-true))  -- returns

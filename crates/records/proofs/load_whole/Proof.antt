@@ -5,8 +5,8 @@ use Rattle.records.proofs.Answered.{no-pipeline-room, no-rule-room, loads_blocks
 use Rattle.records.proofs.load_whole.Statement.{statement}
 use Rattle.records.proofs.load_whole.Tie as tie
 
-pub load-whole-spec : {M : Type 1} → statement M
-load-whole-spec = tie.close (tie.spec
+pub load_whole_spec : {M : Type 1} → statement M
+load_whole_spec = tie.close (tie.spec
     (λ c κs. search few)  -- pipeline-words-requires
     (λ c. search no-pipeline-room)  -- returns
     (λ c κs. (few _ _ c.before.before.before.before.before.requires).few_rules)  -- run-words-requires

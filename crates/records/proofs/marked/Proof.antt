@@ -4,8 +4,8 @@ use borrow.Author.Rules.{rules}
 use Rattle.records.proofs.marked.Statement.{statement}
 use Rattle.records.proofs.marked.Tie as tie
 
-pub marked-spec : {M : Type 1} → statement M
-marked-spec = tie.close (tie.spec
+pub marked_spec : {M : Type 1} → statement M
+marked_spec = tie.close (tie.spec
     (λ c κs. search rules)  -- mark-requires
     (λ c. search rules)  -- shared-slice-read-if1
     (λ c. search rules)  -- array-read-if1

@@ -4,8 +4,8 @@ use borrow.Author.Rules.{rules}
 use Rattle.records.proofs.stands.Statement.{statement}
 use Rattle.records.proofs.stands.Tie as tie
 
-pub stands-spec : {M : Type 1} → statement M
-stands-spec = tie.close (tie.spec
+pub stands_spec : {M : Type 1} → statement M
+stands_spec = tie.close (tie.spec
     (λ c. search rules)  -- sub-if1
     (λ c κs. search rules)  -- bytes-requires
     (λ c. search cut)  -- returns

@@ -6,8 +6,8 @@ use Rattle.records.proofs.Blocks.{wrote-all}
 use Rattle.records.proofs.write_pipeline.Statement.{statement}
 use Rattle.records.proofs.write_pipeline.Tie as tie
 
-pub write-pipeline-spec : {M : Type 1} → statement M
-write-pipeline-spec = tie.close (tie.spec
+pub write_pipeline_spec : {M : Type 1} → statement M
+write_pipeline_spec = tie.close (tie.spec
     (λ c κs. few _ _ c.before.before.requires.0)  -- counts-requires
     (λ c. search rules)  -- slice-aggregate-put
     (λ c κs. search rules)  -- put-requires

@@ -5,8 +5,8 @@ use borrow.Author.Rules.{rules}
 use Rattle.returns.proofs.checked.Statement.{statement}
 use Rattle.returns.proofs.checked.Tie as tie
 
-pub checked-spec : {M : Type 1} → statement M
-checked-spec = tie.close (tie.spec
+pub checked_spec : {M : Type 1} → statement M
+checked_spec = tie.close (tie.spec
     (λ c. search rules)  -- enum_told
     (λ c κs. search rules)  -- succeed-requires
     (λ c. search rules)  -- enum-known-answer

@@ -5,8 +5,8 @@ use borrow.Author.Rules.{rules}
 use Rattle.returns.proofs.confirmed.Statement.{statement}
 use Rattle.returns.proofs.confirmed.Tie as tie
 
-pub confirmed-spec : {M : Type 1} → statement M
-confirmed-spec = tie.close (tie.spec
+pub confirmed_spec : {M : Type 1} → statement M
+confirmed_spec = tie.close (tie.spec
     (λ c. search rules)  -- enum_told
     (λ c κs. search rules)  -- succeed-requires
     (λ c. search rules)  -- enum-told-2

@@ -5,8 +5,8 @@ use borrow.Author.Rules.{rules}
 use Rattle.returns.proofs.loaded.Statement.{statement}
 use Rattle.returns.proofs.loaded.Tie as tie
 
-pub loaded-spec : {M : Type 1} → statement M
-loaded-spec = tie.close (tie.spec
+pub loaded_spec : {M : Type 1} → statement M
+loaded_spec = tie.close (tie.spec
     (λ c. search rules)  -- enum-known-answer
     (λ c κs. search rules)  -- succeed-requires
     (λ c. search rules)  -- enum-known-answer-2

@@ -5,8 +5,8 @@ use borrow.Author.Rules.{rules}
 use Rattle.returns.proofs.looked_up.Statement.{statement}
 use Rattle.returns.proofs.looked_up.Tie as tie
 
-pub looked-up-spec : {M : Type 1} → statement M
-looked-up-spec = tie.close (tie.spec
+pub looked_up_spec : {M : Type 1} → statement M
+looked_up_spec = tie.close (tie.spec
     (λ c. search rules)  -- enum_told
     (λ c κs. search rules)  -- succeed-requires
     (λ c. search rules)  -- enum-known-part

@@ -5,8 +5,8 @@ use borrow.Author.Rules.{rules}
 use Rattle.returns.proofs.passified.Statement.{statement}
 use Rattle.returns.proofs.passified.Tie as tie
 
-pub passified-spec : {M : Type 1} → statement M
-passified-spec = tie.close (tie.spec
+pub passified_spec : {M : Type 1} → statement M
+passified_spec = tie.close (tie.spec
     (λ c. search rules)  -- enum-known-answer
     (λ c κs. search rules)  -- succeed-requires
     (λ c. search rules)  -- enum-known-answer-2

@@ -5,8 +5,8 @@ use borrow.Author.Rules.{rules}
 use Rattle.returns.proofs.ran.Statement.{statement}
 use Rattle.returns.proofs.ran.Tie as tie
 
-pub ran-spec : {M : Type 1} → statement M
-ran-spec = tie.close (tie.spec
+pub ran_spec : {M : Type 1} → statement M
+ran_spec = tie.close (tie.spec
     (λ c. search rules)  -- enum-known-answer
     (λ c κs. search rules)  -- succeed-requires
     (λ c. search rules)  -- enum-known-answer-2

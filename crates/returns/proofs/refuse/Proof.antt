@@ -4,8 +4,8 @@ use Rattle.returns.proofs.refuse.Statement.{statement}
 use Rattle.returns.proofs.refuse.Tie as tie
 use Rattle.returns.proofs.Returns.{refusal}
 
-pub refuse-spec : {M : Type 1} → statement M
-refuse-spec =
+pub refuse_spec : {M : Type 1} → statement M
+refuse_spec =
     tie.close
     (tie.spec
     (λ c κs. search rules)  -- place-requires

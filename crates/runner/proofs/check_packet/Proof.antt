@@ -4,8 +4,8 @@ use borrow.Author.Rules.{rules}
 use Rattle.runner.proofs.check_packet.Statement.{statement}
 use Rattle.runner.proofs.check_packet.Tie as tie
 
-pub check-packet-spec : {M : Type 1} → statement M
-check-packet-spec = tie.close (tie.spec
+pub check_packet_spec : {M : Type 1} → statement M
+check_packet_spec = tie.close (tie.spec
     (λ c κs. search rules)  -- widths-requires
     (λ c. search packet-judged)  -- returns
     (λ c κs. search (rules, lent_narrow))  -- first-wide-requires

@@ -4,8 +4,8 @@ use borrow.Author.Rules.{rules}
 use Rattle.runner.proofs.check_start.Statement.{statement}
 use Rattle.runner.proofs.check_start.Tie as tie
 
-pub check-start-spec : {M : Type 1} → statement M
-check-start-spec = tie.close (tie.spec
+pub check_start_spec : {M : Type 1} → statement M
+check_start_spec = tie.close (tie.spec
     (λ c κs. search rules)  -- check-requires
     (λ c. search rules)  -- enum-told
     (λ c κs. search (check-whole, check-narrow))  -- check-packet-requires

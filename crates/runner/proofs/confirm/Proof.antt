@@ -5,8 +5,8 @@ use borrow.Author.Rules.{rules}
 use Rattle.runner.proofs.confirm.Statement.{statement}
 use Rattle.runner.proofs.confirm.Tie as tie
 
-pub confirm-spec : {M : Type 1} → statement M
-confirm-spec = tie.close (tie.spec
+pub confirm_spec : {M : Type 1} → statement M
+confirm_spec = tie.close (tie.spec
     (λ c κs. search rules)  -- check-start-requires
     (λ c. search rules)  -- enum-told
     (λ c κs. search (started_accepted, started_within))  -- run-whole-requires

@@ -4,8 +4,8 @@ use borrow.Author.Rules.{rules}
 use Rattle.runner.proofs.judged.Statement.{statement}
 use Rattle.runner.proofs.judged.Tie as tie
 
-pub judged-spec : {M : Type 1} → statement M
-judged-spec = tie.close (tie.spec
+pub judged_spec : {M : Type 1} → statement M
+judged_spec = tie.close (tie.spec
     (λ c. search rules)  -- enum_told
     (λ c. search rules)  -- enum-told-2
     (λ c. search rules)  -- enum-told-3

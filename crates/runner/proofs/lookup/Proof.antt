@@ -4,8 +4,8 @@ use borrow.Author.Rules.{rules}
 use Rattle.runner.proofs.lookup.Statement.{statement}
 use Rattle.runner.proofs.lookup.Tie as tie
 
-pub lookup-spec : {M : Type 1} → statement M
-lookup-spec = tie.close (tie.spec
+pub lookup_spec : {M : Type 1} → statement M
+lookup_spec = tie.close (tie.spec
     (λ c κs. search rules)  -- lookup-part-requires
     (λ c. search rules)  -- enum-known-at
     (λ c κs. search rules-room)  -- three-requires

@@ -5,8 +5,8 @@ use borrow.Author.Rules.{rules}
 use Rattle.runner.proofs.lookup_part.Statement.{statement}
 use Rattle.runner.proofs.lookup_part.Tie as tie
 
-pub lookup-part-spec : {M : Type 1} → statement M
-lookup-part-spec = tie.close (tie.spec
+pub lookup_part_spec : {M : Type 1} → statement M
+lookup_part_spec = tie.close (tie.spec
     (λ c κs. search rules)  -- check-start-requires
     (λ c. search rules)  -- enum-told
     (λ c κs. search (started_accepted, started_within))  -- lookup-started-requires

@@ -6,8 +6,8 @@ use borrow.Author.Rules.{rules}
 use Rattle.runner.proofs.lookup_started.Statement.{statement}
 use Rattle.runner.proofs.lookup_started.Tie as tie
 
-pub lookup-started-spec : {M : Type 1} → statement M
-lookup-started-spec = tie.close (tie.spec
+pub lookup_started_spec : {M : Type 1} → statement M
+lookup_started_spec = tie.close (tie.spec
     (λ c κs. search whole)  -- table-count-requires
     (λ c. search (rules, no_table))  -- returns
     (λ c κs. search lends)  -- hit-requires

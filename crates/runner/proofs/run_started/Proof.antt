@@ -5,8 +5,8 @@ use borrow.Author.Rules.{rules}
 use Rattle.runner.proofs.run_started.Statement.{statement}
 use Rattle.runner.proofs.run_started.Tie as tie
 
-pub run-started-spec : {M : Type 1} → statement M
-run-started-spec = tie.close (tie.spec
+pub run_started_spec : {M : Type 1} → statement M
+run_started_spec = tie.close (tie.spec
     (λ c κs. search whole)  -- field-count-requires
     (λ c. search room_refuses)  -- returns
     (λ c κs. search rules)  -- run-whole-requires

@@ -4,8 +4,8 @@ use borrow.Author.Rules.{rules}
 use Rattle.runner.proofs.three.Statement.{statement}
 use Rattle.runner.proofs.three.Tie as tie
 
-pub three-spec : {M : Type 1} → statement M
-three-spec = tie.close (tie.spec
+pub three_spec : {M : Type 1} → statement M
+three_spec = tie.close (tie.spec
     (λ c. search rules)  -- add-end
     (λ c. search rules)  -- mul-result
     (λ c. search rules)  -- sub-result

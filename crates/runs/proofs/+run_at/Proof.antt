@@ -47,8 +47,8 @@ here t c =
       within = s.requires.1.within;
     }
 
-pub +run-at-spec : {M : Type 1} → statement M
-+run-at-spec = close μ
+pub +run_at_spec : {M : Type 1} → statement M
++run_at_spec = close μ
     (λ t. lts.spec (calls t) (run-at-at t) run-at.Post
     (λ c κs. search (rules, whole))  -- node-requires
     (λ c. search rules)  -- cast-a

@@ -5,8 +5,8 @@ use borrow.Author.Rules.{rules}
 use Rattle.runs.proofs.run_whole.Statement.{statement}
 use Rattle.runs.proofs.run_whole.Tie as tie
 
-pub run-whole-spec : {M : Type 1} → statement M
-run-whole-spec = tie.close (tie.spec
+pub run_whole_spec : {M : Type 1} → statement M
+run_whole_spec = tie.close (tie.spec
     (λ c κs. search whole)  -- root-requires
     (λ c. search rules)  -- cast-root
     (λ c κs. search rules)  -- program-requires

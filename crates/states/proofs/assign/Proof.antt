@@ -4,8 +4,8 @@ use borrow.Author.Rules.{rules}
 use Rattle.states.proofs.assign.Statement.{statement}
 use Rattle.states.proofs.assign.Tie as tie
 
-pub assign-spec : {M : Type 1} → statement M
-assign-spec = tie.close (tie.spec
+pub assign_spec : {M : Type 1} → statement M
+assign_spec = tie.close (tie.spec
     (λ c κs. search rules)  -- field-count-requires
     (λ c κs. search rules)  -- first-requires
     (λ c κs. search (rules, lent, assigns_value))  -- bits-at-requires

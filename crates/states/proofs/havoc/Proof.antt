@@ -4,8 +4,8 @@ use borrow.Author.Rules.{rules}
 use Rattle.states.proofs.havoc.Statement.{statement}
 use Rattle.states.proofs.havoc.Tie as tie
 
-pub havoc-spec : {M : Type 1} → statement M
-havoc-spec = tie.close (tie.spec
+pub havoc_spec : {M : Type 1} → statement M
+havoc_spec = tie.close (tie.spec
     (λ c κs. search rules)  -- end-of-requires
     (λ c. search havoc-short)  -- returns
     (λ c. search rules)  -- mul-entry

@@ -4,8 +4,8 @@ use borrow.Author.Rules.{rules}
 use Rattle.states.proofs.next_side.Statement.{statement}
 use Rattle.states.proofs.next_side.Tie as tie
 
-pub next-side-spec : {M : Type 1} → statement M
-next-side-spec = tie.close (tie.spec
+pub next_side_spec : {M : Type 1} → statement M
+next_side_spec = tie.close (tie.spec
     (λ c. search sides)  -- returns
     (λ c. search rules)  -- mul-match
     (λ c. search rules)  -- shared-slice-read-match

@@ -4,8 +4,8 @@ use borrow.Author.Rules.{rules}
 use Rattle.states.proofs.tested.Statement.{statement}
 use Rattle.states.proofs.tested.Tie as tie
 
-pub tested-spec : {M : Type 1} → statement M
-tested-spec = tie.close (tie.spec
+pub tested_spec : {M : Type 1} → statement M
+tested_spec = tie.close (tie.spec
     (λ c κs. search rules)  -- field-count-requires
     (λ c κs. search rules)  -- first-requires
     (λ c κs. search (rules, lent))  -- truth-at-requires

@@ -5,8 +5,8 @@ use Rattle.tables.proofs.Scan.{taken, kept}
 use Rattle.tables.proofs.better.Statement.{statement}
 use Rattle.tables.proofs.better.Tie as tie
 
-pub better-spec : {M : Type 1} → statement M
-better-spec = tie.close (tie.spec
+pub better_spec : {M : Type 1} → statement M
+better_spec = tie.close (tie.spec
     (λ c κs. search rules)  -- table-of-requires
     (λ c κs. search rules)  -- precedes-requires
     (λ c κs. search rules)  -- matches-requires

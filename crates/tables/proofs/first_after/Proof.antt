@@ -6,8 +6,8 @@ use Rattle.tables.proofs.Order.{none_after}
 use Rattle.tables.proofs.first_after.Statement.{statement}
 use Rattle.tables.proofs.first_after.Tie as tie
 
-pub first-after-spec : {M : Type 1} → statement M
-first-after-spec = tie.close (tie.spec
+pub first_after_spec : {M : Type 1} → statement M
+first_after_spec = tie.close (tie.spec
     (λ c κs. search rules)  -- rule-count-requires
     (λ c. search rules)  -- add-result
     (λ c. (search none_after, omega (arith, c.before.rule-count.ensures)))  -- returns

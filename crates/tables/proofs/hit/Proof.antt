@@ -17,8 +17,8 @@ invariant-loop p r packet t count best₀ i₀ best i = (i ≤ count) × (hit_fr
 abbrev decreases-loop : tie.decreases-loop
 decreases-loop p r packet t count best₀ i₀ best i = count - i
 
-pub hit-spec : {M : Type 1} → statement M
-hit-spec = tie.close (tie.spec invariant-loop decreases-loop
+pub hit_spec : {M : Type 1} → statement M
+hit_spec = tie.close (tie.spec invariant-loop decreases-loop
     (λ c κs. search rules)  -- rule-count-requires
     (λ c. (omega arith, search none_yet))  -- loop-holds
     (λ c κs. search rules)  -- settled-requires

@@ -4,8 +4,8 @@ use Rattle.tables.proofs.Fitting.{there}
 use Rattle.tables.proofs.key_matches.Statement.{statement}
 use Rattle.tables.proofs.key_matches.Tie as tie
 
-pub key-matches-spec : {M : Type 1} → statement M
-key-matches-spec = tie.close (tie.spec
+pub key_matches_spec : {M : Type 1} → statement M
+key_matches_spec = tie.close (tie.spec
     (λ c κs. (search rules, (search there, search there)))  -- key-requires
     (λ c κs. search rules)  -- wide-requires
     (λ c κs. (search rules, search there))  -- mask-requires

@@ -13,8 +13,8 @@ invariant-loop p r packet i t count j₀ j = Matched p r packet i t count j
 abbrev decreases-loop : tie.decreases-loop
 decreases-loop p r packet i t count j₀ j = count - j
 
-pub matches-spec : {M : Type 1} → statement M
-matches-spec = tie.close (tie.spec invariant-loop decreases-loop
+pub matches_spec : {M : Type 1} → statement M
+matches_spec = tie.close (tie.spec invariant-loop decreases-loop
     (λ c κs. search rules)  -- table-of-requires
     (λ c κs. (search rules, search there))  -- key-count-requires
     (λ c κs. search rules)  -- wide-requires

@@ -5,8 +5,8 @@ use Rattle.tables.proofs.Scan.{taken, kept}
 use Rattle.tables.proofs.nearer.Statement.{statement}
 use Rattle.tables.proofs.nearer.Tie as tie
 
-pub nearer-spec : {M : Type 1} → statement M
-nearer-spec = tie.close (tie.spec
+pub nearer_spec : {M : Type 1} → statement M
+nearer_spec = tie.close (tie.spec
     (λ c κs. search rules)  -- table-of-requires
     (λ c κs. search rules)  -- precedes-requires
     (λ c κs. search rules)  -- comes-after-requires

@@ -17,8 +17,8 @@ invariant-loop r t after count best₀ i₀ best i = (i ≤ count) × (hit_from 
 abbrev decreases-loop : tie.decreases-loop
 decreases-loop r t after count best₀ i₀ best i = count - i
 
-pub next-spec : {M : Type 1} → statement M
-next-spec = tie.close (tie.spec invariant-loop decreases-loop
+pub next_spec : {M : Type 1} → statement M
+next_spec = tie.close (tie.spec invariant-loop decreases-loop
     (λ c κs. search rules)  -- rule-count-requires
     (λ c κs. search rules)  -- first-after-requires
     (λ c. (omega (arith, c.first-after.ensures.1, c.before.rule-count.ensures), search none_below))  -- loop-holds

@@ -21,8 +21,8 @@ decimal-at t = and 1 decimal-kinds.ps (is 1 decimal-kinds.ps μ t) decimal.Pre
 abbrev decimal-below : ℕ → In 1 decimal-kinds.ps
 decimal-below t = and 1 decimal-kinds.ps (falls 1 decimal-kinds.ps ◌<◌ μ t) decimal.Pre
 
-pub +decimal-spec : {M : Type 1} → statement M
-+decimal-spec = close μ
+pub +decimal_spec : {M : Type 1} → statement M
++decimal_spec = close μ
     (λ t. lts.spec (last-digit.Asked, last-digit.Learnt, decimal-below t, decimal.Post) (decimal-at t) decimal.Post
     (λ c κs. search (rules, first-room))  -- last-digit-requires
     (λ c. search rules)  -- same-length

@@ -4,8 +4,8 @@ use Rattle.text.proofs.Pieces.{byte}
 use Rattle.text.proofs.last_digit.Statement.{statement}
 use Rattle.text.proofs.last_digit.Tie as tie
 
-pub last-digit-spec : {M : Type 1} → statement M
-last-digit-spec = tie.close (tie.spec
+pub last_digit_spec : {M : Type 1} → statement M
+last_digit_spec = tie.close (tie.spec
     (λ c. search rules)  -- cast-out
     (λ c. search rules)  -- add-out
     (λ c. search rules)  -- slice-write-out

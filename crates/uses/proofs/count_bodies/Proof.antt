@@ -18,8 +18,8 @@ invariant-loop p counts₀ n k₀ counts k = (n ≡ A p) × (k ≤ n) × Adds (j
 abbrev decreases-loop : tie.decreases-loop
 decreases-loop p counts₀ n k₀ counts k = n - k
 
-pub count-bodies-spec : {M : Type 1} → statement M
-count-bodies-spec = tie.close (tie.spec invariant-loop decreases-loop
+pub count_bodies_spec : {M : Type 1} → statement M
+count_bodies_spec = tie.close (tie.spec invariant-loop decreases-loop
     (λ c κs. search rules)  -- action-count-requires
     (λ c. (c.action-count.ensures, omega arith, joined-none _))  -- loop-holds
     (λ c κs. (search rules, omega arith))  -- body-requires

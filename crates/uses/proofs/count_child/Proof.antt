@@ -4,8 +4,8 @@ use Rattle.uses.proofs.Counts.{adds_none, role_adds}
 use Rattle.uses.proofs.count_child.Statement.{statement}
 use Rattle.uses.proofs.count_child.Tie as tie
 
-pub count-child-spec : {M : Type 1} → statement M
-count-child-spec = tie.close (tie.spec
+pub count_child_spec : {M : Type 1} → statement M
+count_child_spec = tie.close (tie.spec
     (λ c. search rules)  -- enum-told
     (λ c κs. search rules)  -- count-requires
     (λ c. search rules)  -- enum-told-2

@@ -17,8 +17,8 @@ invariant-loop p counts₀ n i₀ counts i = (n ≡ N p) × (i ≤ n) × Adds (j
 abbrev decreases-loop : tie.decreases-loop
 decreases-loop p counts₀ n i₀ counts i = n - i
 
-pub count-children-spec : {M : Type 1} → statement M
-count-children-spec = tie.close (tie.spec invariant-loop decreases-loop
+pub count_children_spec : {M : Type 1} → statement M
+count_children_spec = tie.close (tie.spec invariant-loop decreases-loop
     (λ c κs. search rules)  -- node-count-requires
     (λ c. (c.node-count.ensures, omega arith, joined-none _))  -- loop-holds
     (λ c κs. (search rules, omega arith))  -- count-node-requires

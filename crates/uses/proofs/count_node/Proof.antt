@@ -5,8 +5,8 @@ use Rattle.uses.proofs.Counts.{adds_both}
 use Rattle.uses.proofs.count_node.Statement.{statement}
 use Rattle.uses.proofs.count_node.Tie as tie
 
-pub count-node-spec : {M : Type 1} → statement M
-count-node-spec = tie.close (tie.spec
+pub count_node_spec : {M : Type 1} → statement M
+count_node_spec = tie.close (tie.spec
     (λ c κs. search rules)  -- node-requires
     (λ c κs. search rules)  -- kind-in-requires
     (λ c κs. search rules)  -- roles-requires

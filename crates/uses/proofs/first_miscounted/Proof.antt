@@ -4,8 +4,8 @@ use Rattle.uses.proofs.Counts.{counted-uses}
 use Rattle.uses.proofs.first_miscounted.Statement.{statement}
 use Rattle.uses.proofs.first_miscounted.Tie as tie
 
-pub first-miscounted-spec : {M : Type 1} → statement M
-first-miscounted-spec = tie.close (tie.spec
+pub first_miscounted_spec : {M : Type 1} → statement M
+first_miscounted_spec = tie.close (tie.spec
     (λ c κs. search rules)  -- count-children-requires
     (λ c κs. search rules)  -- count-bodies-requires
     (λ c κs. search rules)  -- root-requires

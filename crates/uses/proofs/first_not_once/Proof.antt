@@ -18,8 +18,8 @@ invariant-loop counts n i₀ i = (i ≤ n) × ((xs : List ℕ) → Counted count
 abbrev decreases-loop : tie.decreases-loop
 decreases-loop counts n i₀ i = n - i
 
-pub first-not-once-spec : {M : Type 1} → statement M
-first-not-once-spec = tie.close (tie.spec invariant-loop decreases-loop
+pub first_not_once_spec : {M : Type 1} → statement M
+first_not_once_spec = tie.close (tie.spec invariant-loop decreases-loop
     (λ c. (omega arith, λ xs h. first-none _))  -- loop-holds
     (λ c. omega arith)  -- element-copy-out-if1
     (λ c.

@@ -18,8 +18,8 @@ invariant-loop p owners n i₀ i = (n ≡ N p) × (i ≤ n) × (first_not (place
 abbrev decreases-loop : tie.decreases-loop
 decreases-loop p owners n i₀ i = n - i
 
-pub first-unplaced-spec : {M : Type 1} → statement M
-first-unplaced-spec = tie.close (tie.spec invariant-loop decreases-loop
+pub first_unplaced_spec : {M : Type 1} → statement M
+first_unplaced_spec = tie.close (tie.spec invariant-loop decreases-loop
     (λ c κs. search rules)  -- node-count-requires
     (λ c. (c.node-count.ensures, omega arith, first-none _))  -- loop-holds
     (λ c κs. let pre = c.before.before.before.before.requires in (pre.0, (pre.1.0, (pre.1.1.0, (pre.1.1.1, omega arith)))))  -- placed-well-requires

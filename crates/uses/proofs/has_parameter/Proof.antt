@@ -6,8 +6,8 @@ use Rattle.uses.proofs.Placed.{has-none, has_not, has_width}
 use Rattle.uses.proofs.has_parameter.Statement.{statement}
 use Rattle.uses.proofs.has_parameter.Tie as tie
 
-pub has-parameter-spec : {M : Type 1} → statement M
-has-parameter-spec = tie.close (tie.spec
+pub has_parameter_spec : {M : Type 1} → statement M
+has_parameter_spec = tie.close (tie.spec
     (λ c. has-none _ _ _ _ c.if1.true)  -- returns
     (λ c. search rules)  -- sub-k
     (λ c κs. search rules)  -- parameter-count-requires

@@ -15,8 +15,8 @@ invariant-loop p owners₀ n k₀ owners k = (n ≡ A p) × (k ≤ n) × Owned p
 abbrev decreases-loop : tie.decreases-loop
 decreases-loop p owners₀ n k₀ owners k = n - k
 
-pub own-bodies-spec : {M : Type 1} → statement M
-own-bodies-spec = tie.close (tie.spec invariant-loop decreases-loop
+pub own_bodies_spec : {M : Type 1} → statement M
+own_bodies_spec = tie.close (tie.spec invariant-loop decreases-loop
     (λ c κs. search rules)  -- action-count-requires
     (λ c. (c.action-count.ensures, omega arith, c.before.before.requires.1.1.1.1))  -- loop-holds
     (λ c κs. (search rules, omega arith))  -- body-requires

@@ -4,8 +4,8 @@ use Rattle.uses.proofs.Owners.{gives_none, role_gives}
 use Rattle.uses.proofs.own_child.Statement.{statement}
 use Rattle.uses.proofs.own_child.Tie as tie
 
-pub own-child-spec : {M : Type 1} → statement M
-own-child-spec = tie.close (tie.spec
+pub own_child_spec : {M : Type 1} → statement M
+own_child_spec = tie.close (tie.spec
     (λ c. search rules)  -- enum-told
     (λ c κs. search rules)  -- own-requires
     (λ c. search rules)  -- enum-told-2

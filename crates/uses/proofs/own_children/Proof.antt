@@ -15,8 +15,8 @@ invariant-loop p owners₀ i₀ owners i = (i ≤ N p) × Owned p (A p) i owners
 abbrev decreases-loop : tie.decreases-loop
 decreases-loop p owners₀ i₀ owners i = i
 
-pub own-children-spec : {M : Type 1} → statement M
-own-children-spec = tie.close (tie.spec invariant-loop decreases-loop
+pub own_children_spec : {M : Type 1} → statement M
+own_children_spec = tie.close (tie.spec invariant-loop decreases-loop
     (λ c κs. search rules)  -- node-count-requires
     (λ c. (omega arith, rw c.node-count.ensures c.before.before.requires.1.1.1))  -- loop-holds
     (λ c. omega arith)  -- sub-i

@@ -6,8 +6,8 @@ use Rattle.uses.proofs.Owners.{gives_both}
 use Rattle.uses.proofs.own_node.Statement.{statement}
 use Rattle.uses.proofs.own_node.Tie as tie
 
-pub own-node-spec : {M : Type 1} → statement M
-own-node-spec = tie.close (tie.spec
+pub own_node_spec : {M : Type 1} → statement M
+own_node_spec = tie.close (tie.spec
     (λ c κs. search rules)  -- node-requires
     (λ c κs. search rules)  -- kind-in-requires
     (λ c κs. search rules)  -- roles-requires

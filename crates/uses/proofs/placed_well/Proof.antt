@@ -5,8 +5,8 @@ use Rattle.uses.proofs.Placed.{owner_low, placed_parameter, placed-apply, placed
 use Rattle.uses.proofs.placed_well.Statement.{statement}
 use Rattle.uses.proofs.placed_well.Tie as tie
 
-pub placed-well-spec : {M : Type 1} → statement M
-placed-well-spec = tie.close (tie.spec
+pub placed_well_spec : {M : Type 1} → statement M
+placed_well_spec = tie.close (tie.spec
     (λ c κs. search rules)  -- node-requires
     (λ c. search rules)  -- element-copy-out-owner
     (λ c.

@@ -108,9 +108,9 @@ test-here t c e =
     let s = d.before.before.before in
     here _ _ _ _ _ _ _ _ _ s.requires.0 s.requires.1.0 s.requires.1.1.0 s.requires.1.1.1 d.node.ensures c.kind-in.ensures e
 
-pub +bits-at-truth-at-spec : {M : Type 1} → statement M
+pub +bits_at_truth_at_spec : {M : Type 1} → statement M
 unfolding GoodValue bits_of
-+bits-at-truth-at-spec = close μ-value μ-test
++bits_at_truth_at_spec = close μ-value μ-test
     (λ t. value-lts.spec (value-calls t) (value-at t) value.Post
     (λ c κs. search rules)  -- node-requires
     (λ c. search rules)  -- cast-a

@@ -3,8 +3,8 @@ use borrow.Author.Rules.{rules}
 use Rattle.values.proofs.binary_bits.Statement.{statement}
 use Rattle.values.proofs.binary_bits.Tie as tie
 
-pub binary-bits-spec : {M : Type 1} → statement M
-binary-bits-spec = tie.close (tie.spec
+pub binary_bits_spec : {M : Type 1} → statement M
+binary_bits_spec = tie.close (tie.spec
     (λ c κs. search rules)  -- binary-requires
     (λ c κs. search rules)  -- of-width-requires
     (λ c. cc))  -- returns

@@ -3,8 +3,8 @@ use borrow.Author.Rules.{rules}
 use Rattle.values.proofs.compare_bits.Statement.{statement}
 use Rattle.values.proofs.compare_bits.Tie as tie
 
-pub compare-bits-spec : {M : Type 1} → statement M
-compare-bits-spec = tie.close (tie.spec
+pub compare_bits_spec : {M : Type 1} → statement M
+compare_bits_spec = tie.close (tie.spec
     (λ c. search rules)  -- enum_told
     (λ c. search rules)  -- enum-told-2
     (λ c κs. search rules)  -- less-requires

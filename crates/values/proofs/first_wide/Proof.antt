@@ -22,8 +22,8 @@ invariant-loop widths numbers count i₀ i = Searched (fitting widths numbers) c
 abbrev decreases-loop : tie.decreases-loop
 decreases-loop widths numbers count i₀ i = count - i
 
-pub first-wide-spec : {M : Type 1} → statement M
-first-wide-spec = tie.close (tie.spec invariant-loop decreases-loop
+pub first_wide_spec : {M : Type 1} → statement M
+first_wide_spec = tie.close (tie.spec invariant-loop decreases-loop
     (λ c. begins _ _ refl)  -- loop-holds
     (λ c. search rules)  -- mul-fits
     (λ c. search rules)  -- shared-slice-read-fits

@@ -3,8 +3,8 @@ use borrow.Author.Rules.{rules}
 use Rattle.values.proofs.slice_bits.Statement.{statement}
 use Rattle.values.proofs.slice_bits.Tie as tie
 
-pub slice-bits-spec : {M : Type 1} → statement M
-slice-bits-spec = tie.close (tie.spec
+pub slice_bits_spec : {M : Type 1} → statement M
+slice_bits_spec = tie.close (tie.spec
     (λ c. search rules)  -- sub-of-width
     (λ c. search rules)  -- add-of-width
     (λ c κs. search rules)  -- slice-requires

@@ -5,9 +5,9 @@ use Rattle.model.specs.Blocks.{words}
 use Rattle.variables.proofs.equation.Statement.{statement}
 use Rattle.variables.proofs.equation.Tie as tie
 
-pub equation-spec : {M : Type 1} → statement M
+pub equation_spec : {M : Type 1} → statement M
 unfolding words
-equation-spec = tie.close (tie.spec
+equation_spec = tie.close (tie.spec
     (λ c. search rules)  -- add-t5
     (λ c. search rules)  -- add-t6
     (λ c. search rules)  -- add-t7

@@ -4,8 +4,8 @@ use Rattle.variables.proofs.Widths.{fresh_holds}
 use Rattle.variables.proofs.fresh.Statement.{statement}
 use Rattle.variables.proofs.fresh.Tie as tie
 
-pub fresh-spec : {M : Type 1} → statement M
-fresh-spec = tie.close (tie.spec
+pub fresh_spec : {M : Type 1} → statement M
+fresh_spec = tie.close (tie.spec
     (λ c κs. search rules)  -- width-requires
     (λ c κs. search rules)  -- put-width-requires
     (λ c. search rules)  -- mul-current

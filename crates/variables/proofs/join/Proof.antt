@@ -21,8 +21,8 @@ returns-2 c =
     let few = few-after x.p.now x.before x.left x.right v.result v.ensures e a.requires.1.0 (a.requires.1.1.1.1 fits) in
     (e.onward, (few, joins x.p.now x.before x.left x.right v.result v.ensures e))
 
-pub join-spec : {M : Type 1} → statement M
-join-spec = tie.close (tie.spec
+pub join_spec : {M : Type 1} → statement M
+join_spec = tie.close (tie.spec
     (λ c. (search rules, (λ h. absurd (omega arith), λ lent b l r x y h. too_large c.if1.true)))  -- returns
     join-vars-requires
     (λ c κs. search rules)  -- put-join-requires

@@ -22,8 +22,8 @@ loop-again c =
     goes_on z.before.before.before.before.before.loop.invariant (search rules)
     z.joined.ensures n.numbered.ensures n.numbered.auto.1.1.1.0
 
-pub join-fields-spec : {M : Type 1} → statement M
-join-fields-spec = tie.close (tie.spec invariant-loop decreases-loop
+pub join_fields_spec : {M : Type 1} → statement M
+join_fields_spec = tie.close (tie.spec invariant-loop decreases-loop
     (λ c. begins (search rules) refl)  -- loop-holds
     (λ c. search rules)  -- mul-joined
     (λ c. search rules)  -- shared-slice-read-joined

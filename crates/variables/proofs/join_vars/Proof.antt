@@ -21,8 +21,8 @@ returns c =
     let b = l.before.before.before.before in
     rw (w.widths.ensures, b.fields.ensures.0, l.fields2.ensures.0, w.before.fields3.ensures.0) at c.before.before.join-fields.ensures
 
-pub join-vars-spec : {M : Type 1} → statement M
-join-vars-spec = tie.close (tie.spec
+pub join_vars_spec : {M : Type 1} → statement M
+join_vars_spec = tie.close (tie.spec
     (λ c κs. search rules)  -- fields-requires
     (λ c κs. search rules)  -- fields-requires-2
     (λ c κs. search rules)  -- fields-requires-3

@@ -4,8 +4,8 @@ use Rattle.variables.proofs.Rules.{new-one, no-new-one}
 use Rattle.variables.proofs.numbered.Statement.{statement}
 use Rattle.variables.proofs.numbered.Tie as tie
 
-pub numbered-spec : {M : Type 1} → statement M
-numbered-spec = tie.close (tie.spec
+pub numbered_spec : {M : Type 1} → statement M
+numbered_spec = tie.close (tie.spec
     (λ c κs. search rules)  -- put-width-requires
     (λ c. search rules)  -- add-result
     (λ c. search rules)  -- same-length

@@ -19,8 +19,8 @@ returns c =
     choice _ _ _ _ _ x.put-side.ensures x.put-side.auto.1.1.1.1.0 s.start.ensures y.put-side2.ensures
     y.put-side2.auto.1.1.1.1.0 n.before.start2.ensures n.node.ensures c.before.before.put-node.ensures
 
-pub put-choice-spec : {M : Type 1} → statement M
-put-choice-spec = tie.close (tie.spec
+pub put_choice_spec : {M : Type 1} → statement M
+put_choice_spec = tie.close (tie.spec
     (λ c κs. search rules)  -- put-side-requires
     (λ c κs. search rules)  -- start-requires
     (λ c. search rules)  -- mul-put-side

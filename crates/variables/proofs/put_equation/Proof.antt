@@ -5,8 +5,8 @@ use Rattle.variables.proofs.Equations.{same_variable, too_far, one_equation}
 use Rattle.variables.proofs.put_equation.Statement.{statement}
 use Rattle.variables.proofs.put_equation.Tie as tie
 
-pub put-equation-spec : {M : Type 1} → statement M
-put-equation-spec = tie.close (tie.spec
+pub put_equation_spec : {M : Type 1} → statement M
+put_equation_spec = tie.close (tie.spec
     (λ c. same_variable c.if1.true)  -- returns
     (λ c. too_far c.if2.true)  -- returns-2
     (λ c κs. search rules)  -- equation-requires

@@ -10,8 +10,8 @@ returns c =
     let l = r.before.before.before.before in
     rw (l.fields.ensures.0, r.fields2.ensures.0, z.fields3.ensures.0) at c.before.before.put-choice.ensures
 
-pub put-join-spec : {M : Type 1} → statement M
-put-join-spec = tie.close (tie.spec
+pub put_join_spec : {M : Type 1} → statement M
+put_join_spec = tie.close (tie.spec
     (λ c κs. search rules)  -- fields-requires
     (λ c κs. search rules)  -- fields-requires-2
     (λ c. search rules)  -- sub-put-choice

@@ -19,8 +19,8 @@ loop-again c =
     goes_on (search rules) s.before.before.loop.invariant (search rules) s.start.ensures t.put-equation.ensures
     t.put-equation.auto.1.1.1.1.0
 
-pub put-side-spec : {M : Type 1} → statement M
-put-side-spec = tie.close (tie.spec invariant-loop decreases-loop
+pub put_side_spec : {M : Type 1} → statement M
+put_side_spec = tie.close (tie.spec invariant-loop decreases-loop
     (λ c. begins)  -- loop-holds
     (λ c κs. search rules)  -- start-requires
     (λ c. search rules)  -- mul-put-equation

@@ -5,8 +5,8 @@ use lib.Seq.{set_out}
 use Rattle.variables.proofs.put_width.Statement.{statement}
 use Rattle.variables.proofs.put_width.Tie as tie
 
-pub put-width-spec : {M : Type 1} → statement M
-put-width-spec = tie.close (tie.spec
+pub put_width_spec : {M : Type 1} → statement M
+put_width_spec = tie.close (tie.spec
     (λ c. search rules)  -- mul-widths
     (λ c. search rules)  -- slice-write-widths
     (λ c. search rules)  -- same-length
