@@ -13,13 +13,13 @@ ghost use Rattle.actions.specs.Scopes.{program_scope, Calls};
 use model::Hit;
 
 // Where a statement stands: in the program, or inside an action's body with the data that stand for its parameters.
-#[derive(Drop)]
+#[derive(Clone, Copy)]
 pub struct Scope {
     pub inside: bool,
     pub given: [u32; 2],
 }
 
-#[derive(Drop)]
+#[derive(Clone, Copy)]
 pub struct Action {
     pub body: usize,
     pub scope: Scope,

@@ -6,7 +6,7 @@ ghost use Rattle.std.specs.Int.Bits.{bit_and, bit_or, bit_xor};
 ghost use Rattle.bits.specs.Width.{fits, sum, difference, binary, complement, slice, join, less, under};
 
 // The operations on two values of one width.
-#[derive(Drop)]
+#[derive(Clone, Copy)]
 pub enum Op {
     Sum,
     Difference,

@@ -4,7 +4,7 @@
 use bits::Op;
 
 // The groups of records, in the order of the record file.
-#[derive(Drop)]
+#[derive(Clone, Copy)]
 pub enum Group {
     Field,
     Node,
@@ -15,7 +15,7 @@ pub enum Group {
 }
 
 // A node: its kind's number and its words.
-#[derive(Drop)]
+#[derive(Clone, Copy)]
 pub struct Node {
     pub kind: u32,
     pub a: u32,
@@ -23,20 +23,20 @@ pub struct Node {
     pub c: u32,
 }
 
-#[derive(Drop)]
+#[derive(Clone, Copy)]
 pub enum Comparison {
     Equal,
     Less,
 }
 
-#[derive(Drop)]
+#[derive(Clone, Copy)]
 pub enum Connective {
     And,
     Or,
 }
 
 // A node's kind. Those that keep one rule share one case.
-#[derive(Drop)]
+#[derive(Clone, Copy)]
 pub enum Kind {
     Constant,
     Field,
@@ -62,14 +62,14 @@ pub enum Kind {
 }
 
 // What a word of a node is.
-#[derive(Drop)]
+#[derive(Clone, Copy)]
 pub enum Role {
     Child,
     Number,
     Unused,
 }
 
-#[derive(Drop)]
+#[derive(Clone, Copy)]
 pub struct Roles {
     pub a: Role,
     pub b: Role,
@@ -77,7 +77,7 @@ pub struct Roles {
 }
 
 // Where a list of nodes stands.
-#[derive(Drop)]
+#[derive(Clone, Copy)]
 pub enum Stage {
     Pipeline,
     Passive,
@@ -85,7 +85,7 @@ pub enum Stage {
 }
 
 // What a node is; a value with its width.
-#[derive(Drop)]
+#[derive(Clone, Copy)]
 pub enum Sort {
     Malformed,
     Value(u32),
@@ -94,21 +94,21 @@ pub enum Sort {
 }
 
 // Bits: a width and a number.
-#[derive(Drop)]
+#[derive(Clone, Copy)]
 pub struct Bits {
     pub width: u32,
     pub number: u32,
 }
 
 // Which rule of a table hits.
-#[derive(Drop)]
+#[derive(Clone, Copy)]
 pub enum Hit {
     Rule(usize),
     Default,
 }
 
 // Where Lookup's three words stand, by the place of the first in its block.
-#[derive(Drop)]
+#[derive(Clone, Copy)]
 pub enum Part {
     Rules(usize),
     Pipeline(usize),
@@ -116,7 +116,7 @@ pub enum Part {
 }
 
 // A refusal, with its place: the rows of document 01's table.
-#[derive(Drop)]
+#[derive(Clone, Copy)]
 pub enum Refusal {
     File(usize),
     Counts,
@@ -138,19 +138,19 @@ pub enum Refusal {
     Form(usize),
 }
 
-#[derive(Drop)]
+#[derive(Clone, Copy)]
 pub enum Loaded {
     Blocks { pipeline: usize, rules: usize },
     Refused(Refusal),
 }
 
-#[derive(Drop)]
+#[derive(Clone, Copy)]
 pub enum Checked {
     Accepted,
     Refused(Refusal),
 }
 
-#[derive(Drop)]
+#[derive(Clone, Copy)]
 pub enum Ran {
     Passed { used: usize },
     Blocked { node: usize, used: usize },
@@ -158,33 +158,33 @@ pub enum Ran {
     Refused(Refusal),
 }
 
-#[derive(Drop)]
+#[derive(Clone, Copy)]
 pub enum Confirmed {
     Yes,
     No,
     Refused(Refusal),
 }
 
-#[derive(Drop)]
+#[derive(Clone, Copy)]
 pub enum Passified {
     Form { nodes: usize, variables: usize },
     Refused(Refusal),
 }
 
-#[derive(Drop)]
+#[derive(Clone, Copy)]
 pub enum Built {
     Entries(usize),
     Refused(Refusal),
 }
 
-#[derive(Drop)]
+#[derive(Clone, Copy)]
 pub enum Evaluated {
     True,
     False,
     Refused(Refusal),
 }
 
-#[derive(Drop)]
+#[derive(Clone, Copy)]
 pub enum Extracted {
     Choices(usize),
     Refused(Refusal),

@@ -250,7 +250,7 @@ fn join_sort(above: u8, below: u8) -> u8
 }
 
 // The sorts of a node's three words, each as if it were a child.
-#[derive(Drop)]
+#[derive(Clone, Copy)]
 pub struct Three {
     pub a: u8,
     pub b: u8,

@@ -73,7 +73,7 @@ fn stands(file: &[u8], g: Group, at: usize) -> bool
 }
 
 // The records of a group that stand one after the other: where the first begins, how many there are, where the last ends.
-#[derive(Drop)]
+#[derive(Clone, Copy)]
 pub struct Run {
     pub at: usize,
     pub count: usize,
@@ -99,7 +99,7 @@ fn read(file: &[u8], g: Group, at: usize) -> Run
 }
 
 // The run of each group before the root.
-#[derive(Drop)]
+#[derive(Clone, Copy)]
 pub struct Runs {
     pub fields: Run,
     pub nodes: Run,
@@ -126,7 +126,7 @@ fn scan(file: &[u8]) -> Runs
 }
 
 // How a file ends.
-#[derive(Drop)]
+#[derive(Clone, Copy)]
 pub enum Ending {
     Whole,
     Fault(usize),

@@ -16,14 +16,14 @@ use actions::{Action, action_of};
 use areas::first;
 
 // Where a run stands: the packet in the first F words, and how many entries were used.
-#[derive(Drop)]
+#[derive(Clone, Copy)]
 pub struct State {
     pub packet: [u32; 32],
     pub used: usize,
 }
 
 // How a run ends: blocked and failed at a node; the list too short, or its next entry wrong.
-#[derive(Drop)]
+#[derive(Clone, Copy)]
 pub enum Ending {
     Passed,
     Blocked(usize),
@@ -32,7 +32,7 @@ pub enum Ending {
     Wrong,
 }
 
-#[derive(Drop)]
+#[derive(Clone, Copy)]
 pub struct End {
     pub state: State,
     pub how: Ending,
@@ -119,7 +119,7 @@ pub fn havoc(p: &[u32], choices: &[u32], s: State, f: usize) -> End
 }
 
 // What the next entry says of a choice: the side that runs, or that there is none.
-#[derive(Drop)]
+#[derive(Clone, Copy)]
 pub enum Side {
     Node(usize),
     Wrong,

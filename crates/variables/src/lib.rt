@@ -14,21 +14,21 @@ ghost use Rattle.variables.specs.Joined.{Joins};
 ghost use Rattle.variables.specs.Sides.{field_vars, Sized, Numbered, JoinsVars, Ties, equation_nodes, choice_nodes};
 
 // The current variable of each field, in the first F words, and the next new one.
-#[derive(Drop)]
+#[derive(Clone, Copy)]
 pub struct Vars {
     pub current: [u32; 32],
     pub next: u32,
 }
 
 // The number of the node behind a piece, and the variables after it.
-#[derive(Drop)]
+#[derive(Clone, Copy)]
 pub struct Made {
     pub at: u32,
     pub vars: Vars,
 }
 
 // The number of the node behind a side's equations, and that of the side's own node.
-#[derive(Drop)]
+#[derive(Clone, Copy)]
 struct Tied {
     at: u32,
     side: u32,
