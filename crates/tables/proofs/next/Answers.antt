@@ -1,0 +1,16 @@
+-- `tables::next` meets its contract. Assumes nothing.
+use Prim.Native.Nat.{◌-◌, ◌≤◌}
+use native.Mathlib.Omega.{arith}
+use mathlib.Core.Path.{◌≡◌}
+use mathlib.Core.Logic.{⊎_elim}
+use Rattle.model.specs.Blocks.{R}
+use Rattle.tables.specs.Next.{comes_after}
+use Rattle.tables.specs.Scan.{first_to, hit_from}
+use Rattle.tables.proofs.Scan.{none_below, found_last, found_settled}
+use Rattle.tables.proofs.next.Goals as goal
+
+pub loop-i-init : goal.loop-i-init
+loop-i-init c = (omega (arith, c.first_after-i.ensures.upper_bound, c.rule_count-count.ensures), search none_below)
+
+pub returns : goal.returns
+returns c = ⊎_elim (λ w. search (found_settled, w.1.ensures)) (λ w. search found_last) c.loop-i-test.branch
