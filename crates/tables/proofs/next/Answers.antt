@@ -2,15 +2,16 @@
 use Prim.Native.Nat.{◌-◌, ◌≤◌}
 use native.Mathlib.Omega.{arith}
 use mathlib.Core.Path.{◌≡◌}
-use mathlib.Core.Logic.{⊎_elim}
 use Rattle.model.specs.Blocks.{R}
 use Rattle.tables.specs.Next.{comes_after}
 use Rattle.tables.specs.Scan.{first_to, hit_from}
 use Rattle.tables.proofs.Scan.{none_below, found_last, found_settled}
 use Rattle.tables.proofs.next.Goals as goal
+use Rattle.tables.proofs.next.Goals.{then-loop-i-test+else-not-settled, else-loop-i-test}
 
 pub loop-i-init : goal.loop-i-init
 loop-i-init c = (omega (arith, c.first_after-i.ensures.upper_bound, c.rule_count-count.ensures), search none_below)
 
 pub returns : goal.returns
-returns c = ⊎_elim (λ w. search (found_settled, w.1.ensures)) (λ w. search found_last) c.loop-i-test.branch
+returns c =
+    elim c.loop-i-test.branch [ then-loop-i-test+else-not-settled w ↦ search (found_settled, w.settled.ensures) | else-loop-i-test w ↦ search found_last ]
