@@ -1,0 +1,23 @@
+-- `uses::count_bodies` meets its contract: the bodies of the actions before `k` are counted. Assumes nothing.
+use Prim.Native.Nat.{◌≤◌, ◌-◌}
+use native.Mathlib.Omega.{arith}
+use mathlib.Core.Path.{◌≡◌}
+use mathlib.Core.List.{[], ◌∷◌}
+use Rattle.model.specs.Lists.{joined}
+use Rattle.model.specs.Blocks.{A, body}
+use Rattle.model.proofs.Lists.{each-joined}
+use Rattle.uses.specs.Counts.{Adds}
+use Rattle.uses.proofs.Counts.{joined-none, joined-next}
+use Rattle.uses.proofs.count_bodies.Goals as goal
+
+pub loop-k-init : goal.loop-k-init
+loop-k-init c = (c.action_count-n.ensures, omega arith, joined-none _)
+
+pub loop-k-preserved : goal.loop-k-preserved
+loop-k-preserved c = let at = c.loop-k in
+    (at.invariant.0, omega arith, joined-next _ _ at.invariant.2 (rw c.body.ensures at c.count.ensures))
+
+pub returns : goal.returns
+returns c = let at = c.loop-k in
+    let e : at.k ≡ A c.args.p.now = omega arith in
+    rw (each-joined, ← e) at.invariant.2
