@@ -1,0 +1,17 @@
+-- `actions::action_of` meets its contract. Assumes nothing.
+use Rattle.std.proofs.Common.{rules}
+use Rattle.blocks.proofs.Accepted.{whole}
+use Rattle.actions.proofs.Actions.{rule-below, rule-room, rule-action, rule_calls, default_room, default_action, default_calls}
+use Rattle.actions.proofs.action_of.Goals as goal
+
+pub action_at-requires-clause-whole : goal.action_at-requires-clause-whole
+action_at-requires-clause-whole c = search (whole, rule-room, rule-action)
+
+pub action_at-requires-clause-at_bound : goal.action_at-requires-clause-at_bound
+action_at-requires-clause-at_bound c = search (whole, rule-room, rule-action)
+
+pub default_place-requires-clause-whole : goal.default_place-requires-clause-whole
+default_place-requires-clause-whole c = search (rules, whole)
+
+pub action_at-requires-in-Default-clause-whole : goal.action_at-requires-in-Default-clause-whole
+action_at-requires-in-Default-clause-whole c = search (whole, default_room, default_action)
