@@ -4,8 +4,6 @@ use native.Mathlib.Omega.{arith}
 use mathlib.Core.Path.{◌≡◌, refl, sym, ap, ◌∙◌}
 use mathlib.Core.Bool.{Bool, true, false}
 use mathlib.Core.List.{List}
-use denote.Enum.Declared.{tag_of}
-use types.Run.{OneOf}
 use lib.ListN.{length}
 use Rattle.model.specs.Blocks.{F, N, T, widths, pipeline_node}
 use Rattle.model.specs.Nodes.{kinds, kind_in}
@@ -16,9 +14,8 @@ use Rattle.model.specs.declared.Node.{Node}
 use Rattle.model.proofs.Children.{BeforeAll}
 use Rattle.model.proofs.Accepted.{accepted-good}
 use Rattle.model.proofs.Uses.{accepted-children}
-use Rattle.model.specs.contracts.Kind as kinds-type
 use Rattle.values.proofs.Trees.{node-before, tree-at}
-use Rattle.values.proofs.Tags.{skips, skips_on}
+use Rattle.values.proofs.Others.{Skips, skips_on}
 use Rattle.actions.specs.declared.Scope.{Scope}
 use Rattle.actions.specs.Scopes.{IsStatement, tables_in, statement_of}
 
@@ -94,5 +91,5 @@ module _ {p r : List ℕ} {scope : Scope} {n : ℕ} {node : Node} {kind : Kind} 
   outside e = only_outside p a scope.inside (good_by _ e)
 
   -- skip, and what is no statement
-  pub is_skip : OneOf skips (tag_of kinds-type.the_type kind) → statement_of p scope n ≡ Stmt.skip
+  pub is_skip : Skips kind → statement_of p scope n ≡ Stmt.skip
   is_skip o = ap as_statement (is _ refl) ∙ skips_on scope.given (tree p scope.given) n kind a b node.c o

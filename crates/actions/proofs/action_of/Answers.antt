@@ -15,3 +15,9 @@ default_place-requires-clause-whole c = search (rules, whole)
 
 pub action_at-requires-in-Default-clause-whole : goal.action_at-requires-in-Default-clause-whole
 action_at-requires-in-Default-clause-whole c = search (whole, default_room, default_action)
+
+pub action_at-requires-in-Default-clause-at_in_bounds : goal.action_at-requires-in-Default-clause-at_in_bounds
+action_at-requires-in-Default-clause-at_in_bounds c = search (whole, default_room, default_action)
+
+pub action_at-requires-in-Default-clause-at_bound : goal.action_at-requires-in-Default-clause-at_bound
+action_at-requires-in-Default-clause-at_bound c = search (whole, default_room, default_action)
