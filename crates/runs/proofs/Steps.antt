@@ -7,8 +7,6 @@ use mathlib.Core.Bool.{Bool, true, false}
 use mathlib.Core.Logic.{◌⊎◌, inl, inr, ⊎_elim}
 use mathlib.Core.List.{List, [], ◌∷◌}
 use borrow.Author.Tests.{ltb-true, ltb-false, eqb-true, eqb-false}
-use denote.Enum.Declared.{tag_of}
-use types.Run.{OneOf}
 use lib.Dec.{eqb, ltb}
 use lib.ListN.{length, drop_of_length-le}
 use Rattle.model.specs.Lists.{if◌then◌else◌, word}
@@ -22,7 +20,6 @@ use Rattle.model.specs.declared.Hit.{Hit}
 use Rattle.model.specs.declared.Kind.{Kind}
 use Rattle.model.specs.declared.Node.{Node}
 use Rattle.model.proofs.Children.{BeforeAll}
-use Rattle.model.specs.contracts.Kind as kinds-type
 use Rattle.actions.specs.declared.Action.{Action}
 use Rattle.actions.specs.declared.Scope.{Scope}
 use Rattle.actions.specs.Scopes.{IsStatement, Calls, tables_in}
@@ -30,14 +27,13 @@ use Rattle.actions.proofs.Read.{Read, tree_is, children, is, good_by, first_belo
 use Rattle.blocks.proofs.Accepted.{few-fields}
 use Rattle.actions.proofs.Actions.{called_is, body-statement}
 use Rattle.values.proofs.Ready.{ready}
-use Rattle.values.proofs.Tags.{skips}
+use Rattle.values.proofs.Others.{Skips}
 use Rattle.states.specs.declared.State.{State as Held}
 use Rattle.states.specs.declared.Ending.{Ending}
 use Rattle.states.specs.declared.End.{End}
 use Rattle.states.specs.declared.Side.{Side}
 use Rattle.states.specs.States.{packet_in, held, state_in, outcome_by, end_of, Stands, EndsAs, side_of, side_at}
 use Rattle.runs.specs.Runnable.{on_apply, run_of, Runnable}
-use Rattle.states.specs.contracts.Ending as ending
 use Rattle.states.proofs.Leaves.{next-entry}
 use Rattle.states.proofs.Actions.{hit_there}
 
@@ -155,8 +151,8 @@ module _ {p r : List ℕ} {scope : Scope} {s : Held} {n t : ℕ} {node : Node} {
       assert_gives = tested_gives Kind.Assert (Ending.Failed n) refl
 
     -- a run that has not passed is not gone on with
-    stays : (how : Ending) (z : State) (go : State → Outcome) → OneOf (1 ∷ 2 ∷ 3 ∷ 4 ∷ []) (tag_of ending.the_type how) → and_then (outcome_by how z) go ≡ outcome_by how z
-    stays Ending.Passed z go o = absurd (⊎_elim (λ z. omega arith) (⊎_elim (λ z. omega arith) (⊎_elim (λ z. omega arith) (λ z. omega arith))) o)
+    stays : (how : Ending) (z : State) (go : State → Outcome) → (how ≡ Ending.Passed → ⊥) → and_then (outcome_by how z) go ≡ outcome_by how z
+    stays Ending.Passed z go o = absurd (o refl)
     stays (Ending.Blocked i) z go o = refl
     stays (Ending.Failed i) z go o = refl
     stays Ending.Short z go o = refl
@@ -170,7 +166,7 @@ module _ {p r : List ℕ} {scope : Scope} {s : Held} {n t : ℕ} {node : Node} {
       unfolding run
       sequence_gives d y g = rw (is h.read _ e, ← l.outcome, d) g
 
-      pub sequence-ends : OneOf (1 ∷ 2 ∷ 3 ∷ 4 ∷ []) (tag_of ending.the_type x.how) → Gives x
+      pub sequence-ends : (x.how ≡ Ending.Passed → ⊥) → Gives x
       unfolding run
       sequence-ends o =
           record {
@@ -249,7 +245,7 @@ module _ {p r : List ℕ} {scope : Scope} {s : Held} {n t : ℕ} {node : Node} {
       apply_gives y g = rw (is h.read _ e, (outside h.read e).0) (rw (c.inside, called_is p r accepted (apply_asks e) rules-below x c) at g)
 
     -- skip, and what is no statement
-    pub rest_gives : OneOf skips (tag_of kinds-type.the_type kind) → (x : End) → x ≡ end_of s Ending.Passed → Gives x
+    pub rest_gives : Skips kind → (x : End) → x ≡ end_of s Ending.Passed → Gives x
     unfolding run
     rest_gives o x i =
         rw (i, is_skip h.read o) (record { outcome = refl; within = h.within })
