@@ -5,7 +5,6 @@ use native.Mathlib.Omega.{arith}
 use mathlib.Core.Path.{◌≡◌, refl, sym, ap, ◌∙◌}
 use mathlib.Core.List.{List, [], ◌∷◌}
 use lib.ListN.{length, set}
-use Rattle.model.specs.Lists.{each}
 use Rattle.model.specs.Bytes.{big_endian}
 use Rattle.model.specs.Blocks.{size}
 use Rattle.model.specs.Files.{bytes}

@@ -160,8 +160,8 @@ fn end_of(file: &[u8], s: Runs) -> Ending
 
 // Copies so many words at a place of the file to a place of the area.
 fn copy_words(file: &[u8], at: usize, count: usize, area: &mut [u32], to: usize)
-    requires count_in_bounds { at + 4 * count ≤ length file.now }
-    requires count_in_bounds_2 { to + count ≤ length area.old }
+    requires words_in_bounds { at + 4 * count ≤ length file.now }
+    requires area_has_room { to + count ≤ length area.old }
     ensures { area.new ≡ onto to (words_at file.now at count) area.old }
 {
     let mut i = 0;
@@ -173,8 +173,8 @@ fn copy_words(file: &[u8], at: usize, count: usize, area: &mut [u32], to: usize)
 
 // Copies the words of a run, and gives the place behind them.
 fn copy_run(file: &[u8], g: Group, run: Run, area: &mut [u32], to: usize) -> usize
-    requires count_in_bounds { run.at + bytes g * run.count ≤ length file.now }
-    requires count_in_bounds_2 { to + size g * run.count ≤ length area.old }
+    requires run_in_bounds { run.at + bytes g * run.count ≤ length file.now }
+    requires area_has_room { to + size g * run.count ≤ length area.old }
     ensures value { result ≡ to + size g * run.count }
     ensures area_after { area.new ≡ onto to (words file.now g run) area.old }
 {
@@ -228,9 +228,10 @@ fn pipeline_words(s: Runs) -> usize
 }
 
 // Writes the pipeline block: each run behind the one before it, at the place that this one gave.
+#[tactic(auto, using(crate::proofs::Contents::inside, crate::proofs::Contents::few))]
 fn write_pipeline(file: &[u8], s: Runs, pipeline: &mut [u32])
     requires whole { Whole file.now s }
-    requires s_in_bounds { pipeline_words s ≤ length pipeline.old }
+    requires area_has_room { pipeline_words s ≤ length pipeline.old }
     ensures { pipeline.new ≡ over (pipeline_in file.now s) pipeline.old }
 {
     let head = counts(s);
@@ -249,6 +250,7 @@ fn write_pipeline(file: &[u8], s: Runs, pipeline: &mut [u32])
 }
 
 // 12, and then the two blocks.
+#[tactic(auto, using(crate::proofs::Contents::inside, crate::proofs::Contents::few))]
 fn load_whole(file: &[u8], s: Runs, pipeline: &mut [u32], rules: &mut [u32]) -> Loaded
     requires { Whole file.now s }
     ensures { Loads file.now pipeline.old rules.old result pipeline.new rules.new }

@@ -1,6 +1,6 @@
 -- `pieces::put_words` meets its contract. Assumes nothing.
 use Rattle.std.proofs.Common.{rules}
-use Rattle.pieces.proofs.Pieces.{beyond, put-words}
+use Rattle.pieces.proofs.Pieces.{put-words}
 use Rattle.pieces.proofs.put_words.Goals as goal
 
 pub returns : goal.returns

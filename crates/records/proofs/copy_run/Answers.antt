@@ -1,7 +1,5 @@
 -- `records::copy_run` meets its contract. Assumes nothing.
-use Prim.Native.Nat.{◌-◌}
-use native.Mathlib.Omega.{arith}
-use Rattle.records.proofs.Pieces.{Records, no-records, one_inside, one-room, one_record, all-records}
+use Rattle.records.proofs.Pieces.{no-records, one_record}
 use Rattle.records.proofs.copy_run.Goals as goal
 
 pub loop-i-init : goal.loop-i-init

@@ -1,6 +1,6 @@
 -- The invariants of `records::copy_run`. Assumes nothing.
 use Prim.Native.Nat.{◌-◌}
-use Rattle.records.proofs.Pieces.{Records, no-records, one_inside, one-room, one_record, all-records}
+use Rattle.records.proofs.Pieces.{Records}
 use Rattle.records.proofs.copy_run.Given as goal
 
 abbrev pub invariant-loop-i : goal.invariant-loop-i

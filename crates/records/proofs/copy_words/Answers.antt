@@ -1,7 +1,6 @@
 -- `records::copy_words` meets its contract. Assumes nothing.
 use Rattle.std.proofs.Common.{rules}
-use Prim.Native.Nat.{◌-◌, ◌≤◌}
-use Rattle.records.proofs.Pieces.{Words, no_words, one_word, all_words}
+use Rattle.records.proofs.Pieces.{no_words, one_word, all_words}
 use Rattle.records.proofs.copy_words.Goals as goal
 
 pub loop-i-init : goal.loop-i-init

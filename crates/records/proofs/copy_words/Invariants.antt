@@ -1,6 +1,6 @@
 -- The invariants of `records::copy_words`. Assumes nothing.
 use Prim.Native.Nat.{◌-◌, ◌≤◌}
-use Rattle.records.proofs.Pieces.{Words, no_words, one_word, all_words}
+use Rattle.records.proofs.Pieces.{Words}
 use Rattle.records.proofs.copy_words.Given as goal
 
 abbrev pub invariant-loop-i : goal.invariant-loop-i

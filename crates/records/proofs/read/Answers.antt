@@ -1,8 +1,6 @@
 -- `records::read` meets its contract. Assumes nothing.
-use Prim.Native.Nat.{◌-◌}
 use native.Mathlib.Omega.{arith}
-use lib.ListN.{length}
-use Rattle.records.proofs.Reading.{Standing, begins, goes_inside, goes_on, stops}
+use Rattle.records.proofs.Reading.{goes_inside, goes_on}
 use Rattle.records.proofs.read.Goals as goal
 
 pub loop-g-smaller : goal.loop-g-smaller

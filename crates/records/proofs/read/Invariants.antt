@@ -1,7 +1,7 @@
 -- The invariants of `records::read`. Assumes nothing.
 use Prim.Native.Nat.{◌-◌}
 use lib.ListN.{length}
-use Rattle.records.proofs.Reading.{Standing, begins, goes_inside, goes_on, stops}
+use Rattle.records.proofs.Reading.{Standing}
 use Rattle.records.proofs.read.Given as goal
 
 abbrev pub invariant-loop-g : goal.invariant-loop-g

@@ -1,12 +1,8 @@
 -- `uses::count_bodies` meets its contract: the bodies of the actions before `k` are counted. Assumes nothing.
-use Prim.Native.Nat.{◌≤◌, ◌-◌}
 use native.Mathlib.Omega.{arith}
 use mathlib.Core.Path.{◌≡◌}
-use mathlib.Core.List.{[], ◌∷◌}
-use Rattle.model.specs.Lists.{joined}
-use Rattle.model.specs.Blocks.{A, body}
+use Rattle.model.specs.Blocks.{A}
 use Rattle.model.proofs.Lists.{each-joined}
-use Rattle.uses.specs.Counts.{Adds}
 use Rattle.uses.proofs.Counts.{joined-none, joined-next}
 use Rattle.uses.proofs.count_bodies.Goals as goal
 

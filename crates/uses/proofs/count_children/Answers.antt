@@ -1,11 +1,7 @@
 -- `uses::count_children` meets its contract: the children of the nodes before `i` are counted. Assumes nothing.
-use Prim.Native.Nat.{◌≤◌, ◌-◌}
 use native.Mathlib.Omega.{arith}
 use mathlib.Core.Path.{◌≡◌}
-use Rattle.model.specs.Lists.{joined}
-use Rattle.model.specs.Blocks.{N, pipeline_node}
-use Rattle.model.specs.Nodes.{children}
-use Rattle.uses.specs.Counts.{Adds}
+use Rattle.model.specs.Blocks.{N}
 use Rattle.uses.proofs.Counts.{joined-none, joined-next}
 use Rattle.uses.proofs.count_children.Goals as goal
 

@@ -9,7 +9,7 @@ use Rattle.uses.specs.Counts.{Counted}
 use Rattle.uses.proofs.first_not_once.Given as goal
 
 abbrev pub invariant-loop-i : goal.invariant-loop-i
-invariant-loop-i l = (l.i ≤ l.n) × ((xs : List ℕ) → Counted l.counts xs → first_not (λ l.i. eqb (times l.i xs) 1) l.i ≡ none)
+invariant-loop-i l = (l.i ≤ l.n) × ((xs : List ℕ) → Counted l.counts xs → first_not (λ i. eqb (times i xs) 1) l.i ≡ none)
 
 abbrev pub decreases-loop-i : goal.decreases-loop-i
 decreases-loop-i l = l.n - l.i

@@ -1,6 +1,6 @@
 -- The invariants of `uses::first_unplaced`. Assumes nothing.
 use Prim.Native.Nat.{◌≤◌, ◌-◌}
-use mathlib.Core.Path.{◌≡◌, sym, ◌∙◌}
+use mathlib.Core.Path.{◌≡◌}
 use mathlib.Core.Option.{none}
 use Rattle.model.specs.Lists.{first_not}
 use Rattle.model.specs.Blocks.{N}

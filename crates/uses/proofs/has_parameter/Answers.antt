@@ -1,6 +1,4 @@
 -- `uses::has_parameter` meets its contract. Assumes nothing.
-use Prim.Native.Nat.{◌-◌}
-use native.Mathlib.Omega.{arith}
 use Rattle.uses.proofs.Placed.{has-none, has_not, has_width}
 use Rattle.uses.proofs.has_parameter.Goals as goal
 

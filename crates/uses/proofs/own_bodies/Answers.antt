@@ -1,9 +1,5 @@
 -- `uses::own_bodies` meets its contract: the bodies of the actions before `k` belong to their actions. Assumes nothing.
-use Prim.Native.Nat.{◌≤◌, ◌-◌}
 use native.Mathlib.Omega.{arith}
-use mathlib.Core.Path.{◌≡◌}
-use Rattle.model.specs.Blocks.{N, A}
-use Rattle.uses.specs.Owners.{Owned}
 use Rattle.uses.proofs.Owners.{owned_body}
 use Rattle.uses.proofs.own_bodies.Goals as goal
 

@@ -1,9 +1,6 @@
 -- `uses::own_children` meets its contract: the children of the nodes from `i` on belong to their parents' owners. Assumes nothing.
-use Prim.Native.Nat.{◌-◌, ◌≤◌}
+use Prim.Native.Nat.{◌-◌}
 use native.Mathlib.Omega.{arith}
-use mathlib.Core.Path.{◌≡◌}
-use Rattle.model.specs.Blocks.{N, A}
-use Rattle.uses.specs.Owners.{Owned}
 use Rattle.uses.proofs.Owners.{owned_node}
 use Rattle.uses.proofs.own_children.Goals as goal
 

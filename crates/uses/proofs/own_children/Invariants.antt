@@ -1,5 +1,5 @@
 -- The invariants of `uses::own_children`. Assumes nothing.
-use Prim.Native.Nat.{◌-◌, ◌≤◌}
+use Prim.Native.Nat.{◌≤◌}
 use Rattle.model.specs.Blocks.{N, A}
 use Rattle.uses.specs.Owners.{Owned}
 use Rattle.uses.proofs.own_children.Given as goal

@@ -1,5 +1,4 @@
 -- `uses::own_node` meets its contract. Assumes nothing.
-use native.Mathlib.Omega.{arith}
 use Rattle.uses.proofs.Children.{node-children}
 use Rattle.uses.proofs.Owners.{gives_both}
 use Rattle.uses.proofs.own_node.Goals as goal
