@@ -12,23 +12,25 @@ import re
 import shutil
 import subprocess
 import sys
+import tempfile
 
 HERE = os.path.dirname(os.path.abspath(__file__))
 TOP = os.path.dirname(HERE)
-WORK = os.path.join(TOP, 'target', 'definitions')
+# outside of the checkout, since the gate takes no proof file beside the listed crates
+WORK = os.path.join(tempfile.gettempdir(), f'definitions-{os.getpid()}')
 PER_CRATE = 100
 
 HEAD = """-- Vectors as equations, each by computation.
-use mathlib.Core.Path.{_≡_, refl}
-use mathlib.Core.List.{List, [], _∷_, _++_}
+use mathlib.Core.Path.{◌≡◌, refl}
+use mathlib.Core.List.{List, [], ◌∷◌, ◌++◌}
 use lib.ListN.{length, replicate}
-use Rattle·model.specs.Blocks.{words}
-use Rattle·model.specs.Condition.{bitsWords, lastTruth}
-use Rattle·model.specs.Answers.{Answer, done, refused, told, yesOrNo}
-use Rattle·model.specs.Calls as calls
-use Rattle·model.specs.Listing.{listing}
-use Rattle·model.specs.declared.Part.{Part}
-use Rattle·model.proofs.Compute.{compute}
+use Rattle.model.specs.Blocks.{words}
+use Rattle.model.specs.Condition.{bits_words, last_truth}
+use Rattle.model.specs.Answers.{Answer, done, refused, told, yes_or_no}
+use Rattle.model.specs.Calls as calls
+use Rattle.model.specs.Listing.{listing}
+use Rattle.model.specs.declared.Part.{Part}
+use Rattle.model.proofs.Compute.{compute}
 """
 
 
@@ -55,7 +57,7 @@ def evaluate_rows(args, room, parts):
     """Two equations: the answer with the values, and what the scratch, filled with 7s, holds afterwards."""
     inputs = ' '.join(spelt(a.split()) for a in args[:3])
     call = f'calls.evaluate {inputs} {room}'
-    after = f'calls.scratchAfter {inputs} (replicate {room} 7)'
+    after = f'calls.scratch_after {inputs} (replicate {room} 7)'
     if parts[0].startswith('refused'):
         zeroed = int(parts[1].split()[1]) if parts[1].startswith('zeroed') else 0
         scratch, values = ['0'] * zeroed, []
@@ -63,7 +65,7 @@ def evaluate_rows(args, room, parts):
         scratch = parts[1].split()
         values = ['1' if parts[0] == 'ok true' else '0'] + scratch
     left = int(room) - len(scratch)
-    return [(f'told (λ xs. yesOrNo (lastTruth xs) ++ bitsWords xs) ({call})', answered(parts[0], values)),
+    return [(f'told (λ xs. yes_or_no (last_truth xs) ++ bits_words xs) ({call})', answered(parts[0], values)),
             (after, f'{spelt(scratch)} ++ replicate {left} 7')]
 
 
@@ -81,22 +83,22 @@ def equations(line):
         return [(f'calls.lookup {lists(3)} {numbers(3)}', part(answer))]
     if call == 'run':
         how = {'passed': '0', 'blocked': '1', 'failed': '2'}.get(parts[0].split()[0])
-        shown = 'λ e. e .how ∷ e .node ∷ e .state .used ∷ e .state .packet'
+        shown = 'λ e. e.how ∷ e.node ∷ e.state.used ∷ e.state.packet'
         return [(f'told ({shown}) (calls.run {lists(4)} {numbers(4)})', answered(answer, [how] + first + rest))]
     if call == 'confirm':
-        return [(f'told yesOrNo (calls.confirm {lists(4)})', answered(answer, ['1' if answer == 'yes' else '0']))]
+        return [(f'told yes_or_no (calls.confirm {lists(4)})', answered(answer, ['1' if answer == 'yes' else '0']))]
     if call == 'passify':
-        shown = 'λ w. length (w .nodes) ∷ length (w .widths) ∷ words (w .nodes) ++ w .widths'
+        shown = 'λ w. length w.nodes ∷ length w.widths ∷ words w.nodes ++ w.widths'
         return [(f'told ({shown}) (calls.passify {lists(2)} {numbers(2)})', answered(answer, first + rest))]
     if call == 'condition':
         return [(f'told (λ es. length es ∷ words es) (calls.condition {lists(2)} {numbers(2)})', answered(answer, first + rest))]
     if call == 'evaluate':
         return evaluate_rows(args, args[3], parts)
     if call == 'extract':
-        shown = 'λ w. length (w .choices) ∷ w .packet ++ w .choices'
+        shown = 'λ w. length w.choices ∷ w.packet ++ w.choices'
         return [(f'told ({shown}) (calls.extract {lists(3)} {numbers(3)})', answered(answer, first + rest))]
     if call == 'load':
-        shown = 'λ b. length (b .pipeline) ∷ length (b .rules) ∷ b .pipeline ++ b .rules'
+        shown = 'λ b. length b.pipeline ∷ length b.rules ∷ b.pipeline ++ b.rules'
         return [(f'told ({shown}) (calls.load {spelt(octets(args[0]))} {numbers(1)})', answered(answer, first + rest))]
     if call == 'listing':
         return [(f'listing {spelt(octets(args[0]))}', spelt(octets(answer)))]
@@ -152,14 +154,14 @@ def write_repository(cases):
     for name, some in crates.items():
         write_crate(name, some)
     for crate in ('bits', 'model'):
-        os.symlink(os.path.join(TOP, 'crates', crate), os.path.join(WORK, 'crates', crate))
+        shutil.copytree(os.path.join(TOP, 'crates', crate), os.path.join(WORK, 'crates', crate), ignore=shutil.ignore_patterns('out', 'must-fail'))
     with open(os.path.join(WORK, 'crates.txt'), 'w') as f:
         f.write('bits:\nmodel: bits\n' + ''.join(f'{name}: model\n' for name in crates))
     return crates
 
 
 def check():
-    run = subprocess.run(['rt', 'check'], cwd=WORK, capture_output=True, text=True, env={**os.environ, 'RT_CUT': '600'})
+    run = subprocess.run(['rt', 'all', 'check'], cwd=WORK, capture_output=True, text=True)
     return run.stdout + run.stderr
 
 
@@ -192,8 +194,11 @@ def main():
         every = [(n, line) for n, line in enumerate(f, 1) if line.strip()]
     cases = chosen([case for case in every if not too_large(case[1])], args.each)
     crates = write_repository(cases)
-    large, wrong, said = sift(crates)
-    proved = sum(len(some) for name, some in crates.items() if f'rt: {name} proved' in said)
+    try:
+        large, wrong, said = sift(crates)
+    finally:
+        shutil.rmtree(WORK, ignore_errors=True)
+    proved = sum(len(some) for name, some in crates.items() if f'\n{name}: ok\n' in said)
     failed = len(cases) - len(large) - proved
     if failed or len(large) * 100 > len(cases):
         print(said[-4000:])

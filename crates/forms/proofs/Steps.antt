@@ -5,8 +5,6 @@ use mathlib.Core.Path.{◌≡◌, refl, sym}
 use mathlib.Core.Bool.{Bool, true, false}
 use mathlib.Core.List.{List, ◌∷◌}
 use borrow.Author.Tests.{ltb-true, ltb-false}
-use denote.Enum.Declared.{tag_of}
-use types.Run.{OneOf}
 use lib.Dec.{ltb}
 use lib.ListN.{length}
 use Rattle.model.specs.Lists.{if◌then◌else◌}
@@ -22,8 +20,7 @@ use Rattle.model.specs.declared.Hit.{Hit}
 use Rattle.model.specs.declared.Kind.{Kind}
 use Rattle.model.specs.declared.Node.{Node}
 use Rattle.model.proofs.Children.{BeforeAll}
-use Rattle.model.specs.contracts.Kind as kinds-type
-use Rattle.values.proofs.Tags.{skips}
+use Rattle.values.proofs.Others.{Skips}
 use Rattle.pieces.specs.Sound.{IsValue, IsTest, Reads, Sound}
 use Rattle.pieces.proofs.Accepted.{sound}
 use Rattle.tables.specs.Next.{next_after, rest_of}
@@ -272,7 +269,7 @@ module _ {p r : List ℕ} {scope : Scope} {n t : ℕ} {node : Node} {kind : Kind
     assert_gives e w = rw (is h.read _ e) (w Passive.assert (λ u. refl))
 
     -- skip, and what is no statement
-    pub rest_gives : OneOf skips (tag_of kinds-type.the_type kind) → Writes p (λ s. form Passive.skip s) at v nodes nodes' area area m
+    pub rest_gives : Skips kind → Writes p (λ s. form Passive.skip s) at v nodes nodes' area area m
         → Writes p (form_of p r scope n) at v nodes nodes' area area m
     unfolding passive.passify
     rest_gives o w = rw (is_skip h.read o) w

@@ -187,7 +187,7 @@ fn guard_at(
 }
 
 // The statement at node n.
-#[cycle(chain_at_choice_at_rest_at_rule_at_sequence_at_statement_at)]
+#[cycle(statements)]
 pub fn statement_at(
     p: &[u32],
     r: &[u32],
@@ -225,7 +225,7 @@ pub fn statement_at(
 }
 
 // Left, right, 37.
-#[cycle(chain_at_choice_at_rest_at_rule_at_sequence_at_statement_at)]
+#[cycle(statements)]
 fn sequence_at(
     p: &[u32],
     r: &[u32],
@@ -249,7 +249,7 @@ fn sequence_at(
 }
 
 // Left, then right from the variables before the choice, and both joined.
-#[cycle(chain_at_choice_at_rest_at_rule_at_sequence_at_statement_at)]
+#[cycle(statements)]
 fn choice_at(
     p: &[u32],
     r: &[u32],
@@ -273,7 +273,7 @@ fn choice_at(
 }
 
 // A table's chain from a rule on: a choice of that rule or the rest, and the default at its end.
-#[cycle(chain_at_choice_at_rest_at_rule_at_sequence_at_statement_at)]
+#[cycle(statements)]
 fn chain_at(
     p: &[u32],
     r: &[u32],
@@ -305,7 +305,7 @@ fn chain_at(
 }
 
 // Assume m, then the rule's body.
-#[cycle(chain_at_choice_at_rest_at_rule_at_sequence_at_statement_at)]
+#[cycle(statements)]
 fn rule_at(
     p: &[u32],
     r: &[u32],
@@ -330,7 +330,7 @@ fn rule_at(
 }
 
 // Assume not m, then the rest.
-#[cycle(chain_at_choice_at_rest_at_rule_at_sequence_at_statement_at)]
+#[cycle(statements)]
 fn rest_at(
     p: &[u32],
     r: &[u32],
