@@ -7,7 +7,7 @@ use Rattle.model.specs.Blocks.{F, T, words}
 use Rattle.model.specs.Good.{Within}
 use Rattle.model.specs.Runs.{State, Outcome, packet_widths, pipeline_run}
 use Rattle.model.specs.Emit.{passive_form}
-use Rattle.model.specs.Condition.{node_count, condition_of, evaluated, last_truth}
+use Rattle.model.specs.Condition.{node_count, condition_of, last_truth}
 use Rattle.model.specs.Walk.{packet_of, choices_of}
 use Rattle.model.specs.Answers as said
 use Rattle.model.specs.Answers.{Answer, done, refused, told, yes_or_no}

@@ -1,7 +1,7 @@
 -- The invariants of `areas::put`. Assumes nothing.
 use Prim.Native.Nat.{◌-◌}
 use lib.ListN.{length}
-use Rattle.areas.proofs.Written.{Put, begins, goes_on, ends}
+use Rattle.areas.proofs.Written.{Put}
 use Rattle.areas.proofs.put.Given as goal
 
 abbrev pub invariant-loop-i : goal.invariant-loop-i

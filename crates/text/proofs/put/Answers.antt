@@ -1,8 +1,6 @@
 -- `text::put` meets its contract. Assumes nothing.
 use Rattle.std.proofs.Common.{rules}
-use Prim.Native.Nat.{◌-◌}
-use lib.ListN.{length}
-use Rattle.text.proofs.Pieces.{Copied, begins, goes_on, ends}
+use Rattle.text.proofs.Pieces.{goes_on}
 use Rattle.text.proofs.put.Goals as goal
 
 pub loop-i-preserved : goal.loop-i-preserved

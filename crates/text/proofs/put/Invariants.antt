@@ -1,7 +1,7 @@
 -- The invariants of `text::put`. Assumes nothing.
 use Prim.Native.Nat.{◌-◌}
 use lib.ListN.{length}
-use Rattle.text.proofs.Pieces.{Copied, begins, goes_on, ends}
+use Rattle.text.proofs.Pieces.{Copied}
 use Rattle.text.proofs.put.Given as goal
 
 abbrev pub invariant-loop-i : goal.invariant-loop-i

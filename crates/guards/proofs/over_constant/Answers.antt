@@ -1,0 +1,8 @@
+-- `guards::over_constant` meets its contract. Assumes nothing.
+use Rattle.guards.proofs.Guards.{over-constant}
+use Rattle.guards.proofs.over_constant.Goals as goal
+
+pub returns : goal.returns
+returns c =
+    over-constant (rw c.node.ensures at c.node_behind-constant.ensures.behind) c.node_behind-constant.auto.out
+    (rw c.node-2.ensures at c.node_behind.ensures.behind) c.node_behind.ensures.lower_bound
