@@ -1,0 +1,6 @@
+-- `forms::tree_behind` meets its contract. Assumes nothing.
+use mathlib.Core.Path.{refl}
+use Rattle.forms.proofs.tree_behind.Goals as goal
+
+pub returns-clause-behind : goal.returns-clause-behind
+returns-clause-behind c = rw (← c.fields.ensures.result_value) c.child_behind.ensures.behind
