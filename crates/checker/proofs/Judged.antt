@@ -8,7 +8,7 @@ use borrow.Author.Tests.{not-true, not-false}
 use Rattle.model.specs.Blocks.{N, root}
 use Rattle.model.specs.Nodes.{is_statement}
 use Rattle.model.specs.Answers.{Answer, done, refused, after, told, refusal_of, checked}
-use Rattle.model.specs.Refusals.{Row, once, judge, counts_well, check_rows, pipeline_sorts, sort_at, field_row, node_row, action_row, table_row, root_row, use_row, uses}
+use Rattle.model.specs.Refusals.{Row, judge, counts_well, check_rows, pipeline_sorts, sort_at, field_row, node_row, action_row, table_row, root_row, use_row, uses}
 use Rattle.model.specs.Calls.{check, Checks}
 use Rattle.model.specs.Demands.{Clear}
 use Rattle.model.specs.declared.Checked.{Checked}

@@ -14,6 +14,7 @@ ghost use Rattle.uses.specs.Owners.{UsedOnce, Gives, Owned, has_parameter, first
 use model::Role;
 
 // One more use of node x. What is used twice stays at 2.
+#[tactic(auto, using(crate::proofs::Counts::adds_raised, crate::proofs::Counts::adds_full, crate::proofs::Counts::adds_past))]
 fn count(counts: &mut [u8; 1024], x: u32)
     ensures { Adds (x ∷ []) counts.old counts.new }
 {

@@ -7,13 +7,12 @@ use Rattle.uses.proofs.Counts.{joined-none, joined-next}
 use Rattle.uses.proofs.count_bodies.Goals as goal
 
 pub loop-k-init : goal.loop-k-init
-loop-k-init c = (c.action_count-n.ensures, omega arith, joined-none _)
+loop-k-init c = (omega arith, joined-none _)
 
 pub loop-k-preserved : goal.loop-k-preserved
-loop-k-preserved c = let at = c.loop-k in
-    (at.invariant.0, omega arith, joined-next _ _ at.invariant.2 (rw c.body.ensures at c.count.ensures))
+loop-k-preserved c = (omega arith, joined-next _ _ c.loop-k.invariant.1 (rw c.body.ensures at c.count.ensures))
 
 pub returns : goal.returns
-returns c = let at = c.loop-k in
-    let e : at.k ≡ A c.args.p.now = omega arith in
-    rw (each-joined, ← e) at.invariant.2
+returns c =
+    let e : c.loop-k.k ≡ A c.args.p.now = omega arith in
+    rw (each-joined, ← e) c.loop-k.invariant.1

@@ -6,10 +6,10 @@ use Rattle.uses.proofs.Counts.{joined-none, joined-next}
 use Rattle.uses.proofs.count_children.Goals as goal
 
 pub loop-i-init : goal.loop-i-init
-loop-i-init c = (c.node_count-n.ensures, omega arith, joined-none _)
+loop-i-init c = (omega arith, joined-none _)
 
 pub loop-i-preserved : goal.loop-i-preserved
-loop-i-preserved c = let at = c.loop-i in (at.invariant.0, omega arith, joined-next _ _ at.invariant.2 c.count_node.ensures)
+loop-i-preserved c = (omega arith, joined-next _ _ c.loop-i.invariant.1 c.count_node.ensures)
 
 pub returns : goal.returns
-returns c = let at = c.loop-i in let e : at.i ≡ N c.args.p.now = omega arith in rw e at at.invariant.2
+returns c = let e : c.loop-i.i ≡ N c.args.p.now = omega arith in rw e at c.loop-i.invariant.1

@@ -4,8 +4,6 @@ use Rattle.uses.proofs.Owners.{gives_both}
 use Rattle.uses.proofs.own_node.Goals as goal
 
 pub returns : goal.returns
-returns c = let two = c in
-    let one = two in
-    let read = one in
-    rw (node-children _ _ _ _ read.node-n.ensures read.kind_in.ensures read.roles-w.ensures)
-    at (gives_both (gives_both one.own_child.ensures two.own_child-2.ensures) c.own_child-3.ensures)
+returns c =
+    rw (node-children _ _ _ _ c.node-n.ensures c.kind_in.ensures c.roles-w.ensures)
+    at (gives_both (gives_both c.own_child.ensures c.own_child-2.ensures) c.own_child-3.ensures)
