@@ -7,7 +7,7 @@ use mathlib.Core.List.{List, ◌∷◌}
 use borrow.Author.Tests.{ltb-true, ltb-false}
 use lib.Dec.{ltb}
 use lib.ListN.{length}
-use Rattle.model.specs.Lists.{if◌then◌else◌}
+use Rattle.std.specs.Prelude.{if◌then◌else◌}
 use Rattle.model.specs.Blocks.{F, N, T, R, widths}
 use Rattle.model.specs.Trees.{Stmt, as_value, as_test, tree}
 use Rattle.model.specs.Tables.{call_of}

@@ -9,7 +9,8 @@ use lib.Dec.{eqb, ltb, leb}
 use lib.ListN.{length, take}
 use lib.Seq.{length-take-le, take_all, get_or-take}
 use borrow.Author.Tests.{ltb-true, ltb-false, leb-true, leb-false, le-ltb, lt-leb, ne_eqb}
-use Rattle.model.specs.Lists.{if◌then◌else◌, word}
+use Rattle.std.specs.Prelude.{if◌then◌else◌}
+use Rattle.model.specs.Lists.{word}
 use Rattle.model.specs.Files.{file_limit, turn, groups, Record, bytes, record_at, Held, whole, fault, behind, marked_by, record_there, records_from, too_long, held}
 use Rattle.model.specs.Calls as calls
 use Rattle.model.specs.Listing.{listing}

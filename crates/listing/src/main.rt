@@ -2,22 +2,30 @@
 // Of a longer file the first bytes decide the text. Nothing is printed of a file that couldn't be read whole.
 #![tactic(auto)]
 
-// Whether the input has ended, where a read stopped short: one that failed would fail again.
-fn ended() -> bool {
-    let mut more = [0u8; 1];
-    libc::read(0, &mut more) == 0
+ghost use Rattle.std.specs.Prelude.{◌≤◌, length, IfOk};
+
+use std::io;
+use std::io::Write;
+
+// Fills the area from its start, until it is full or the input has ended, and says how many bytes came.
+fn read_full<R: io::Read>(input: &mut R, area: &mut [u8]) -> io::Result<usize>
+    ensures { IfOk result (λ count. count ≤ length area.new) }
+{
+    let mut count = 0;
+    while count < area.len() {
+        let more = input.read(&mut area[count..])?;
+        if more == 0 {
+            break;
+        }
+        count += more;
+    }
+    Ok(count)
 }
 
-fn main() {
+fn main(rt: HostRuntime) -> io::Result<()> {
     let mut file = lister::file_area();
-    let count = io::read_full(0, &mut file);
-    if count < file.len() && !ended() {
-        io::write_all(2, b"listing: standard input could not be read\n");
-        return;
-    }
+    let count = read_full(&mut rt.reader(), &mut file)?;
     let mut text = lister::text_area();
     let end = lister::listing(&file[..count], &mut text);
-    if !io::write_all(1, &text[..end]) {
-        io::write_all(2, b"listing: standard output could not be written\n");
-    }
+    io::writer(&rt).write_all(&text[..end])
 }

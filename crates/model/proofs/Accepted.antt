@@ -11,7 +11,8 @@ use lib.Bits.{bit_and, and_le_r}
 use lib.Pow.{pow_pos}
 use borrow.Author.Tests.{eqb-true, ltb-true, leb-true, lt-ltb, not-true}
 use Rattle.bits.specs.Width.{fits, under}
-use Rattle.model.specs.Lists.{if◌then◌else◌, within, word, each, every, exists, times, among, those}
+use Rattle.std.specs.Prelude.{if◌then◌else◌}
+use Rattle.model.specs.Lists.{within, word, each, every, exists, times, among, those}
 use Rattle.model.specs.Blocks.{F, N, A, T, R, root, size, pipeline_length, width, widths, Call, call_at, pipeline_node, body, parameter_count, parameter_width, key_count, key, default_place, table_of, value, mask, call_place}
 use Rattle.model.specs.Nodes.{kinds, is_width, is_formed, is_statement, sort_of}
 use Rattle.model.specs.Trees.{no_data, program, called}

@@ -7,7 +7,8 @@ use mathlib.Core.List.{List, [], ◌∷◌, ◌++◌}
 use lib.Dec.{eqb, leb}
 use lib.ListN.{length}
 use borrow.Author.Tests.{eqb-true, eq-eqb, le-leb, leb-true}
-use Rattle.model.specs.Lists.{if◌then◌else◌, within, word}
+use Rattle.std.specs.Prelude.{if◌then◌else◌}
+use Rattle.model.specs.Lists.{within, word}
 use Rattle.model.specs.Blocks.{words, plain_node}
 use Rattle.model.specs.Nodes.{is_test, is_statement, is_formed}
 use Rattle.model.specs.Good.{Within}

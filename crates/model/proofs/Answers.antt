@@ -9,7 +9,8 @@ use mathlib.Core.Logic.{inl, inr}
 use lib.ListN.{get_or, length}
 use denote.Ref.{Bor}
 use Rattle.bits.specs.Width.{fits}
-use Rattle.model.specs.Lists.{if◌then◌else◌, word, first_not}
+use Rattle.std.specs.Prelude.{if◌then◌else◌}
+use Rattle.model.specs.Lists.{word, first_not}
 use Rattle.model.specs.Trees.{Stmt, truth_of, bits_in}
 use Rattle.model.specs.Tables.{part_words}
 use Rattle.model.specs.Runs.{State, Outcome, and_then, with_next, take_side, take_value, run, run_table, no_apply, pipeline_run}

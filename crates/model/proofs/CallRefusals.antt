@@ -10,7 +10,7 @@ use mathlib.Core.Bool.{Bool, true, false}
 use lib.ListN.{length}
 use lib.Dec.{ltb}
 use borrow.Author.Tests.{le-ltb, ltb-true, ltb-false}
-use Rattle.model.specs.Lists.{if◌then◌else◌}
+use Rattle.std.specs.Prelude.{if◌then◌else◌}
 use Rattle.model.specs.Blocks.{T, call_place, default_place}
 use Rattle.model.specs.Tables.{matches, hit, part_of, part_words}
 use Rattle.model.specs.Runs.{Outcome, pipeline_run}

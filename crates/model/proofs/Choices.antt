@@ -10,7 +10,7 @@ use lib.Dec.{eqb}
 use lib.ListN.{get_or, length, length-map}
 use lib.Seq.{ext_get_or}
 use borrow.Author.Tests.{eqb-true, eqb-false}
-use Rattle.model.specs.Lists.{if◌then◌else◌}
+use Rattle.std.specs.Prelude.{if◌then◌else◌}
 use Rattle.model.specs.Trees.{Test, truth_of}
 use Rattle.model.specs.Runs.{State, state, Outcome, passed, failed, blocked, refused}
 use Rattle.model.specs.Passive.{Passive, Origin, Vars, next, beside, Form, JoinRule, equations, join, ◌then◌}

@@ -7,7 +7,7 @@ use mathlib.Core.List.{List, [], ◌∷◌, map}
 use lib.ListN.{get_or, set, length}
 use borrow.Author.Tests.{eq-eqb, ltb-true}
 use Rattle.bits.specs.Width.{fits}
-use Rattle.model.specs.Lists.{if◌then◌else◌}
+use Rattle.std.specs.Prelude.{if◌then◌else◌}
 use Rattle.model.specs.Trees.{Val, Test, Stmt, bits_of, truth_of, bits_in}
 use Rattle.model.specs.Good.{GoodValue, GoodTest, width_of_value}
 use Rattle.model.specs.Runs.{State, state, Outcome, passed, failed, blocked, refused, and_then, put, run}

@@ -8,7 +8,8 @@ use mathlib.Core.List.{List, [], ◌∷◌, ◌++◌}
 use lib.Dec.{eqb, ltb}
 use lib.ListN.{get_or, length, length-append, get_or-append}
 use lib.Seq.{get_or_at}
-use Rattle.model.specs.Lists.{if◌then◌else◌, joined}
+use Rattle.std.specs.Prelude.{if◌then◌else◌}
+use Rattle.model.specs.Lists.{joined}
 use Rattle.model.specs.Blocks.{node, words, plain_node}
 use Rattle.model.specs.Nodes.{number_of, allowed, roles, renumbered_in}
 use Rattle.model.specs.Condition.{no, not_entry, on, entries_of, condition_of}

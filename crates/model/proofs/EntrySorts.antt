@@ -10,7 +10,8 @@ use lib.Dec.{ltb, leb}
 use lib.ListN.{get_or, length}
 use borrow.Author.Tests.{lt-ltb, le-leb, ltb-true}
 use Rattle.bits.specs.Width.{fits}
-use Rattle.model.specs.Lists.{if◌then◌else◌, each, build, joined, times}
+use Rattle.std.specs.Prelude.{if◌then◌else◌}
+use Rattle.model.specs.Lists.{each, build, joined, times}
 use Rattle.model.specs.Blocks.{node, words, plain_node}
 use Rattle.model.specs.Nodes.{number_of, kinds, kind_in, kind_of, allowed, roles, renumbered_in, zero_in, unused_zero, width_of, is_test, is_statement, is_formed, is_width, is_value, alike, only, sort_by, sort_of}
 use Rattle.model.specs.Condition.{node_count, no, not_entry, on, entries_of, condition_of}

@@ -9,7 +9,8 @@ use mathlib.Core.List.{List, [], ◌∷◌, ◌++◌}
 use lib.Dec.{eqb, ltb}
 use lib.ListN.{get_or, length, get_or-eq_default}
 use borrow.Author.Tests.{eq-eqb, lt-ltb, ltb-true, ltb-false}
-use Rattle.model.specs.Lists.{if◌then◌else◌, build, each, every, exists, those, times, among}
+use Rattle.std.specs.Prelude.{if◌then◌else◌}
+use Rattle.model.specs.Lists.{build, each, every, exists, those, times, among}
 use Rattle.model.specs.Tables.{placed, ordered}
 use Rattle.model.proofs.Booleans.{both_true, true_both, and_true}
 use Rattle.model.proofs.Lists.{made, length-build, build-at}

@@ -5,7 +5,7 @@ use mathlib.Core.Bool.{Bool, true, false}
 use mathlib.Core.List.{List}
 use lib.ListN.{get_or, length}
 use Rattle.bits.proofs.Widths.{binary-fits, complement-fits, slice_fits, join-fits}
-use Rattle.model.specs.Lists.{if◌then◌else◌}
+use Rattle.std.specs.Prelude.{if◌then◌else◌}
 use Rattle.model.specs.Trees.{Val, bits_of, truth_of, bits_in}
 use Rattle.model.specs.Good.{Within, width_of_value, GoodValue}
 use Rattle.model.specs.declared.Bits.{Bits}

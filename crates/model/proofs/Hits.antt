@@ -6,7 +6,8 @@ use mathlib.Core.Bool.{Bool, true, false}
 use mathlib.Core.List.{List, [], ◌∷◌}
 use lib.ListN.{length}
 use lib.Seq.{drop-cons}
-use Rattle.model.specs.Lists.{if◌then◌else◌, part}
+use Rattle.std.specs.Prelude.{if◌then◌else◌}
+use Rattle.model.specs.Lists.{part}
 use Rattle.model.specs.Blocks.{T, R, call_place, default_place}
 use Rattle.model.specs.Tables.{tried, first_that}
 use Rattle.model.specs.Refusals.{counts_well}

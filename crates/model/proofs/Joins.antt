@@ -10,7 +10,7 @@ use lib.Dec.{eqb}
 use lib.ListN.{get_or, length, length-append}
 use lib.Seq.{get_or-append_seam}
 use borrow.Author.Tests.{eqb-true, eq-eqb}
-use Rattle.model.specs.Lists.{if◌then◌else◌}
+use Rattle.std.specs.Prelude.{if◌then◌else◌}
 use Rattle.model.specs.Passive.{Vars, vars, next, beside, JoinRule, new_where_differs, joined_vars, new_widths}
 use Rattle.model.proofs.GoodForms.{AllWidths}
 use Rattle.model.proofs.Variables.{var, Front, front_trans, front_append, all_more, all_one, Ready, Steps}

@@ -8,7 +8,8 @@ use mathlib.Core.List.{List, [], ◌∷◌}
 use lib.Dec.{eqb, ltb}
 use borrow.Author.Tests.{eqb-true}
 use Rattle.bits.specs.declared.Op.{Op}
-use Rattle.model.specs.Lists.{if◌then◌else◌, times}
+use Rattle.std.specs.Prelude.{if◌then◌else◌}
+use Rattle.model.specs.Lists.{times}
 use Rattle.model.specs.Nodes.{number_of, kinds, kind_in, kind_of, pipeline_only, allowed}
 use Rattle.model.specs.declared.Comparison.{Comparison}
 use Rattle.model.specs.declared.Connective.{Connective}

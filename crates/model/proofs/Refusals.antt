@@ -7,7 +7,8 @@ use mathlib.Core.Logic.{◌↔◌, ◌⊎◌, inl, inr, ⊎_elim}
 use mathlib.Core.Bool.{Bool, true, false}
 use mathlib.Core.List.{List, [], ◌∷◌, ◌++◌}
 use mathlib.Core.Option.{Option, none, some}
-use Rattle.model.specs.Lists.{if◌then◌else◌, earlier, first_not}
+use Rattle.std.specs.Prelude.{if◌then◌else◌}
+use Rattle.model.specs.Lists.{earlier, first_not}
 use Rattle.model.specs.Answers.{done, refused}
 use Rattle.model.specs.Refusals.{Row, given, judge}
 use Rattle.model.specs.Demands.{WellBefore, Applies, Clear, First}

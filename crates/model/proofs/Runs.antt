@@ -6,7 +6,7 @@ use mathlib.Core.Path.{◌≡◌, ap, ◌∙◌}
 use mathlib.Core.Bool.{Bool}
 use mathlib.Core.List.{List, ◌∷◌, ◌++◌, append_assoc}
 use lib.ListN.{length, length-append}
-use Rattle.model.specs.Lists.{if◌then◌else◌}
+use Rattle.std.specs.Prelude.{if◌then◌else◌}
 use Rattle.model.specs.Runs.{State, state, Outcome, passed, failed, and_then, with_next, take_side}
 
 abbrev pub Run : Type 0

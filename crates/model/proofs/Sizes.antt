@@ -8,7 +8,7 @@ use mathlib.Core.List.{List, [], ◌∷◌}
 use lib.Dec.{eqb}
 use lib.ListN.{get_or, length, length-append}
 use borrow.Author.Tests.{eqb-true}
-use Rattle.model.specs.Lists.{if◌then◌else◌}
+use Rattle.std.specs.Prelude.{if◌then◌else◌}
 use Rattle.model.specs.Trees.{Test}
 use Rattle.model.specs.Passive.{Passive, Origin, Equation, new_widths, equations, ◌then◌}
 use Rattle.model.specs.Emit.{past, top, emit_equations, emit}

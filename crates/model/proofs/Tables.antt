@@ -5,7 +5,8 @@ use mathlib.Core.Path.{◌≡◌, refl}
 use mathlib.Core.Bool.{Bool, true, false}
 use mathlib.Core.List.{List, [], ◌∷◌}
 use Rattle.bits.specs.Width as bits
-use Rattle.model.specs.Lists.{if◌then◌else◌, every, word}
+use Rattle.std.specs.Prelude.{if◌then◌else◌}
+use Rattle.model.specs.Lists.{every, word}
 use Rattle.model.specs.Blocks.{T, Call, widths, key_count, key, table_of, value, mask}
 use Rattle.model.specs.Trees.{truth_of, bits_in, program, called}
 use Rattle.model.specs.Good.{Good}

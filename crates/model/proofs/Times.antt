@@ -8,7 +8,8 @@ use mathlib.Core.Logic.{◌⊎◌, inl, inr}
 use mathlib.Core.List.{List, [], ◌∷◌, ◌++◌}
 use lib.Dec.{eqb, ltb}
 use borrow.Author.Tests.{eq-eqb, ne_eqb, eqb-true, lt-ltb, ltb-true}
-use Rattle.model.specs.Lists.{if◌then◌else◌, joined, times, among}
+use Rattle.std.specs.Prelude.{if◌then◌else◌}
+use Rattle.model.specs.Lists.{joined, times, among}
 use Rattle.model.proofs.Booleans.{or_left, or_right}
 use Rattle.model.proofs.Every.{All}
 

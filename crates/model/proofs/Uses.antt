@@ -7,7 +7,8 @@ use mathlib.Core.List.{List, [], ◌∷◌, ◌++◌}
 use lib.Dec.{eqb, ltb}
 use lib.ListN.{get_or}
 use borrow.Author.Tests.{eqb-true, ltb-true}
-use Rattle.model.specs.Lists.{if◌then◌else◌, build, joined, each, times, among}
+use Rattle.std.specs.Prelude.{if◌then◌else◌}
+use Rattle.model.specs.Lists.{build, joined, each, times, among}
 use Rattle.model.specs.Blocks.{N, A, T, root, widths, pipeline_node, body}
 use Rattle.model.specs.Nodes.{is_formed, children, sort_of}
 use Rattle.model.specs.Refusals.{pipeline_sorts, sort_at, uses, gathered, under_each}

@@ -9,7 +9,7 @@ use mathlib.Core.Logic.{◌⊎◌, inl, inr, ◌≢◌}
 use lib.Dec.{eqb}
 use lib.ListN.{get_or, length}
 use borrow.Author.Tests.{eqb-true, eqb-false, eq-eqb, ne_eqb}
-use Rattle.model.specs.Lists.{if◌then◌else◌}
+use Rattle.std.specs.Prelude.{if◌then◌else◌}
 
 -- the second agrees with the first on the variables below n
 abbrev pub Agree : ℕ → (ℕ → ℕ) → (ℕ → ℕ) → Type 0

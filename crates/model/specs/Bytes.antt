@@ -1,6 +1,6 @@
 -- Numbers as bytes: four bytes of a word, and the digits of a text. Assumes nothing: these are definitions.
-use Rattle.std.specs.Prelude.{ℕ, zero, suc, ◌+◌, ◌*◌, ◌%◌, ◌/◌, List, [], ◌∷◌, ltb}
-use Rattle.model.specs.Lists.{if◌then◌else◌, word}
+use Rattle.std.specs.Prelude.{ℕ, zero, suc, ◌+◌, ◌*◌, ◌%◌, ◌/◌, List, [], ◌∷◌, ltb, if◌then◌else◌}
+use Rattle.model.specs.Lists.{word}
 
 -- the word whose four bytes stand at a place, big-endian
 abbrev pub big_endian : List ℕ → ℕ → ℕ

@@ -1,8 +1,7 @@
 -- The nine calls: what each answers, and what each area holds afterwards, for all inputs. An area that is lent is given by its words
 -- before the call. Assumes nothing: these are definitions.
-use Rattle.std.specs.Prelude.{ℕ, ◌+◌, ◌*◌, ◌≡◌, Bool, true, false, not, ◌&&◌, List, [], ◌∷◌, ◌++◌, eqb, ltb, leb, length, drop, replicate}
+use Rattle.std.specs.Prelude.{ℕ, ◌+◌, ◌*◌, ◌≡◌, Bool, true, false, not, ◌&&◌, List, [], ◌∷◌, ◌++◌, eqb, ltb, leb, length, drop, replicate, if◌then◌else◌}
 use Rattle.std.specs.Borrow.{Bor}
-use Rattle.model.specs.Lists.{if◌then◌else◌}
 use Rattle.model.specs.Blocks.{F, T, words}
 use Rattle.model.specs.Files.{Held, whole, fault, held, pipeline_of, rules_of}
 use Rattle.model.specs.Trees.{bits_in}

@@ -1,7 +1,7 @@
 -- Document 01, "The condition": the entries that a passive form's nodes own, and their evaluation in order.
 -- Assumes nothing: these are definitions.
-use Rattle.std.specs.Prelude.{ℕ, ◌+◌, ◌*◌, ◌-◌, ◌/◌, Bool, not, List, [], ◌∷◌, ◌++◌, eqb, ltb, length, get_or}
-use Rattle.model.specs.Lists.{if◌then◌else◌, build, joined}
+use Rattle.std.specs.Prelude.{ℕ, ◌+◌, ◌*◌, ◌-◌, ◌/◌, Bool, not, List, [], ◌∷◌, ◌++◌, eqb, ltb, length, get_or, if◌then◌else◌}
+use Rattle.model.specs.Lists.{build, joined}
 use Rattle.model.specs.Blocks.{node, plain_node, size}
 use Rattle.model.specs.Nodes.{kind_of, renumbered}
 use Rattle.model.specs.Trees.{of_width, binary_bits, complement_bits, slice_bits, join_bits, compare_bits, connected}

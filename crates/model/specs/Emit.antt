@@ -1,8 +1,7 @@
 -- Document 01, "Passive form": the nodes that a passive form is written as. Nodes are emitted children first, in order a, b, c.
 -- Each piece is a list of nodes, of which the first has the number `at`, and the last is the piece's own node.
 -- Assumes nothing: these are definitions.
-use Rattle.std.specs.Prelude.{ℕ, ◌+◌, ◌-◌, List, [], ◌∷◌, ◌++◌, length}
-use Rattle.model.specs.Lists.{if◌then◌else◌}
+use Rattle.std.specs.Prelude.{ℕ, ◌+◌, ◌-◌, List, [], ◌∷◌, ◌++◌, length, if◌then◌else◌}
 use Rattle.model.specs.Blocks.{node}
 use Rattle.model.specs.Nodes.{number_of}
 use Rattle.model.specs.declared.Node.{Node}

@@ -1,8 +1,8 @@
 -- Document 01, "Blocks and records": the record file. Its bytes are looked at from the front, a record at a time.
 -- Assumes nothing: these are definitions.
-use Rattle.std.specs.Prelude.{ℕ, zero, suc, ◌+◌, ◌*◌, Bool, ◌&&◌, List, [], ◌∷◌, ◌++◌, eqb, ltb, leb, length}
+use Rattle.std.specs.Prelude.{ℕ, zero, suc, ◌+◌, ◌*◌, Bool, ◌&&◌, List, [], ◌∷◌, ◌++◌, eqb, ltb, leb, length, if◌then◌else◌}
 use Rattle.std.proofs.Math.Option.{Option, none, some}
-use Rattle.model.specs.Lists.{if◌then◌else◌, word, each}
+use Rattle.model.specs.Lists.{word, each}
 use Rattle.model.specs.Bytes.{big_endian}
 use Rattle.model.specs.Blocks.{size}
 use Rattle.model.specs.declared.Group.{Group}

@@ -1,11 +1,6 @@
 -- Small words that the other files are written in. Assumes nothing: these are definitions.
-use Rattle.std.specs.Prelude.{ℕ, zero, suc, Bool, true, false, ◌&&◌, List, [], ◌∷◌, ◌++◌, eqb, ltb, leb, get_or, take, drop}
+use Rattle.std.specs.Prelude.{ℕ, zero, suc, Bool, true, false, ◌&&◌, List, [], ◌∷◌, ◌++◌, eqb, ltb, leb, get_or, take, drop, if◌then◌else◌}
 use Rattle.std.proofs.Math.Option.{Option, none, some}
-
-infix 5 if◌then◌else◌
-abbrev pub if◌then◌else◌ : {A : Type 0} → Bool → A → A → A
-if◌then◌else◌ true x y = x
-if◌then◌else◌ false x y = y
 
 -- low ≤ n ≤ high
 abbrev pub within : ℕ → ℕ → ℕ → Bool

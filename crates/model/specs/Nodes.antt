@@ -1,9 +1,9 @@
 -- Document 01, "Nodes": the kinds, what a node holds, and its sort from the sorts of its children.
 -- Assumes nothing: these are definitions.
-use Rattle.std.specs.Prelude.{ℕ, ◌+◌, ◌-◌, Bool, true, false, not, ◌&&◌, List, [], ◌∷◌, ◌++◌, eqb, ltb, leb, length, get_or}
+use Rattle.std.specs.Prelude.{ℕ, ◌+◌, ◌-◌, Bool, true, false, not, ◌&&◌, List, [], ◌∷◌, ◌++◌, eqb, ltb, leb, length, get_or, if◌then◌else◌}
 use Rattle.bits.specs.Width.{fits}
 use Rattle.bits.specs.declared.Op.{Op}
-use Rattle.model.specs.Lists.{if◌then◌else◌, within, build, among}
+use Rattle.model.specs.Lists.{within, build, among}
 use Rattle.model.specs.Blocks.{node}
 use Rattle.model.specs.declared.Node.{Node}
 use Rattle.model.specs.declared.Comparison.{Comparison}

@@ -1,7 +1,7 @@
 -- Document 01, "Passive form": statements over variables, each of which has one value. Assumes nothing: these are definitions.
-use Rattle.std.specs.Prelude.{ℕ, zero, suc, true, List, [], ◌∷◌, ◌++◌, eqb, get_or, set, length}
+use Rattle.std.specs.Prelude.{ℕ, zero, suc, true, List, [], ◌∷◌, ◌++◌, eqb, get_or, set, length, if◌then◌else◌}
 use Rattle.bits.specs.declared.Op.{Op}
-use Rattle.model.specs.Lists.{if◌then◌else◌, each}
+use Rattle.model.specs.Lists.{each}
 use Rattle.model.specs.Blocks.{F, Call, widths, width, key_count, key, table_of, value, mask}
 use Rattle.model.specs.Trees.{Val, Test, Stmt, program, called}
 use Rattle.model.specs.Tables.{tried, call_of}

@@ -1,8 +1,8 @@
 -- Document 01, "Numbers a call can answer": each call's refusals, in its order. Assumes nothing: these are definitions.
-use Rattle.std.specs.Prelude.{ℕ, suc, ◌+◌, ◌*◌, ◌%◌, Bool, true, not, ◌&&◌, List, [], ◌∷◌, ◌++◌, eqb, ltb, leb, length, get_or}
+use Rattle.std.specs.Prelude.{ℕ, suc, ◌+◌, ◌*◌, ◌%◌, Bool, true, not, ◌&&◌, List, [], ◌∷◌, ◌++◌, eqb, ltb, leb, length, get_or, if◌then◌else◌}
 use Rattle.std.proofs.Math.Option.{Option, none, some}
 use Rattle.bits.specs.Width.{fits, under}
-use Rattle.model.specs.Lists.{if◌then◌else◌, within, word, each, build, joined, every, exists, first_not, times, among}
+use Rattle.model.specs.Lists.{within, word, each, build, joined, every, exists, first_not, times, among}
 use Rattle.model.specs.Blocks.{F, N, A, T, R, root, size, pipeline_length, width, widths, Call, call_at, pipeline_node, plain_node, body, parameter_count, parameter_width, key_count, key, default_place, table_of, value, mask, call_place}
 use Rattle.model.specs.Nodes.{is_width, is_formed, is_test, is_statement, sorts, children}
 use Rattle.model.specs.Runs.{packet_widths}

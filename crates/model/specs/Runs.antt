@@ -1,7 +1,6 @@
 -- Document 01, "Runs": how a pipeline ends on a packet and a choice list. Assumes nothing: these are definitions.
-use Rattle.std.specs.Prelude.{ℕ, zero, suc, List, [], ◌∷◌, get_or, set}
+use Rattle.std.specs.Prelude.{ℕ, zero, suc, List, [], ◌∷◌, get_or, set, if◌then◌else◌}
 use Rattle.bits.specs.Width.{fits}
-use Rattle.model.specs.Lists.{if◌then◌else◌}
 use Rattle.model.specs.Blocks.{widths}
 use Rattle.model.specs.Trees.{Stmt, bits_of, truth_of, bits_in, program, called}
 use Rattle.model.specs.Tables.{hit, call_of}

@@ -1,8 +1,8 @@
 -- Document 01, "Runs": which rule of a table hits, and the three words that Lookup answers.
 -- Assumes nothing: these are definitions.
-use Rattle.std.specs.Prelude.{ℕ, Bool, List, [], ◌∷◌, eqb, ltb}
+use Rattle.std.specs.Prelude.{ℕ, Bool, List, [], ◌∷◌, eqb, ltb, if◌then◌else◌}
 use Rattle.bits.specs.Width as bits
-use Rattle.model.specs.Lists.{if◌then◌else◌, every, each, those, word, part}
+use Rattle.model.specs.Lists.{every, each, those, word, part}
 use Rattle.model.specs.Blocks.{R, Call, call_at, key_count, key, default_place, table_of, value, mask, call_place}
 use Rattle.model.specs.declared.Hit.{Hit}
 use Rattle.model.specs.declared.Part.{Part}

@@ -1,9 +1,9 @@
 -- Values, tests and statements as trees; the total decoder from a block's words to trees; what a value and a test say.
 -- Assumes nothing: these are definitions.
-use Rattle.std.specs.Prelude.{ℕ, ◌+◌, ◌-◌, Bool, false, not, ◌&&◌, ◌||◌, List, [], ◌∷◌, eqb, get_or}
+use Rattle.std.specs.Prelude.{ℕ, ◌+◌, ◌-◌, Bool, false, not, ◌&&◌, ◌||◌, List, [], ◌∷◌, eqb, get_or, if◌then◌else◌}
 use Rattle.bits.specs.Width as bits
 use Rattle.bits.specs.declared.Op.{Op}
-use Rattle.model.specs.Lists.{if◌then◌else◌, build}
+use Rattle.model.specs.Lists.{build}
 use Rattle.model.specs.Blocks.{Call, N, root, pipeline_node, body}
 use Rattle.model.specs.Nodes.{kind_of}
 use Rattle.model.specs.declared.Bits.{Bits}

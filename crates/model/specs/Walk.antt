@@ -1,7 +1,6 @@
 -- Document 01, "The condition": what Extract takes out of a valuation. `at x` is the bits of the variable x.
 -- Assumes nothing: these are definitions.
-use Rattle.std.specs.Prelude.{ℕ, Bool, true, false, not, ◌&&◌, ◌||◌, List, [], ◌∷◌, ◌++◌, eqb, take, length}
-use Rattle.model.specs.Lists.{if◌then◌else◌}
+use Rattle.std.specs.Prelude.{ℕ, Bool, true, false, not, ◌&&◌, ◌||◌, List, [], ◌∷◌, ◌++◌, eqb, take, length, if◌then◌else◌}
 use Rattle.model.specs.Trees.{truth_of, bits_in}
 use Rattle.model.specs.Runs.{packet_widths}
 use Rattle.model.specs.Passive.{Passive, Origin, Equation, ◌then◌, passive}

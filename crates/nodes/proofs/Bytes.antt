@@ -7,7 +7,8 @@ use mathlib.Core.List.{List}
 use lib.Dec.{eqb, ltb}
 use lib.ListN.{length, get_or, get_or-eq_default}
 use borrow.Author.Tests.{ne_eqb, ltb-true, ltb-false}
-use Rattle.model.specs.Lists.{if◌then◌else◌, word}
+use Rattle.std.specs.Prelude.{if◌then◌else◌}
+use Rattle.model.specs.Lists.{word}
 use Rattle.model.specs.Nodes.{width_of, is_test, is_statement, is_formed}
 use Rattle.model.specs.declared.Sort.{Sort}
 use Rattle.nodes.specs.Codes.{sort_from, Coded}

@@ -13,7 +13,8 @@ use lib.Dec.{ltb}
 use lib.ListN.{length, get_or, set}
 use lib.Seq.{get_or-set_same, get_or-set_other}
 use borrow.Author.Tests.{not-true, not-false}
-use Rattle.model.specs.Lists.{if◌then◌else◌, word, first_not}
+use Rattle.std.specs.Prelude.{if◌then◌else◌}
+use Rattle.model.specs.Lists.{word, first_not}
 use Rattle.model.specs.Blocks.{node_at}
 use Rattle.model.specs.Nodes.{width_of, is_formed, sort_of}
 use Rattle.model.specs.declared.Node.{Node}

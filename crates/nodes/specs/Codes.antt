@@ -1,7 +1,7 @@
 -- How a sort stands in a byte: the sorts so far are kept in an area of bytes, and the code makes and asks no other form of a sort.
 -- Assumes nothing: these are definitions.
-use Rattle.std.specs.Prelude.{ℕ, ◌+◌, ◌*◌, ◌-◌, ◌<◌, ◌≡◌, List, eqb, get_or}
-use Rattle.model.specs.Lists.{if◌then◌else◌, word, first_place}
+use Rattle.std.specs.Prelude.{ℕ, ◌+◌, ◌*◌, ◌-◌, ◌<◌, ◌≡◌, List, eqb, get_or, if◌then◌else◌}
+use Rattle.model.specs.Lists.{word, first_place}
 use Rattle.model.specs.Blocks.{node_at}
 use Rattle.model.specs.Nodes.{is_formed, sorts}
 use Rattle.model.specs.declared.Sort.{Sort}

@@ -2,9 +2,9 @@
 // from the sorts of its children, and the first node of a list that is malformed.
 #![tactic(auto)]
 
-ghost use Rattle.std.specs.Prelude.{◌≡◌, ◌&&◌, List, ℕ, ◌+◌, ◌*◌, ◌-◌, ◌≤◌, ltb, leb, length, get_or};
+ghost use Rattle.std.specs.Prelude.{◌≡◌, ◌&&◌, List, ℕ, ◌+◌, ◌*◌, ◌-◌, ◌≤◌, ltb, leb, length, get_or, if◌then◌else◌};
 ghost use Rattle.bits.specs.Width.{fits};
-ghost use Rattle.model.specs.Lists.{if◌then◌else◌, word};
+ghost use Rattle.model.specs.Lists.{word};
 ghost use Rattle.model.specs.Nodes.{kinds, kind_in, pipeline_only, allowed, kind_of, are, roles, zero_in, unused_zero, width_of, is_test, is_statement, is_formed, is_width, is_value, alike, only, sort_by, sort_of};
 ghost use Rattle.nodes.specs.Codes.{sort_from, Coded, sorts_from, first_malformed};
 

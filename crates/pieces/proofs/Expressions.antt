@@ -6,7 +6,7 @@ use mathlib.Core.List.{List, [], ◌∷◌, ◌++◌, append_assoc}
 use lib.Dec.{eqb}
 use lib.ListN.{length}
 use Rattle.bits.specs.declared.Op.{Op}
-use Rattle.model.specs.Lists.{if◌then◌else◌}
+use Rattle.std.specs.Prelude.{if◌then◌else◌}
 use Rattle.model.specs.Blocks.{N, node, pipeline_node}
 use Rattle.model.specs.Nodes.{kinds, kind_in, number_of, roles}
 use Rattle.model.specs.Trees.{Tree, as_value, as_test, tree, tree_by}

@@ -1,6 +1,6 @@
 -- What writing a piece of a passive form means: its nodes stand at the start of the area that is lent. Assumes nothing: these are definitions.
-use Rattle.std.specs.Prelude.{ℕ, ◌-◌, ◌*◌, ◌≤◌, ◌<◌, ◌≡◌, List, [], ◌++◌, eqb, length}
-use Rattle.model.specs.Lists.{if◌then◌else◌, word}
+use Rattle.std.specs.Prelude.{ℕ, ◌-◌, ◌*◌, ◌≤◌, ◌<◌, ◌≡◌, List, [], ◌++◌, eqb, length, if◌then◌else◌}
+use Rattle.model.specs.Lists.{word}
 use Rattle.model.specs.Blocks.{node, words}
 use Rattle.model.specs.Trees.{Tree}
 use Rattle.model.specs.Passive.{renamed, renamed_test}

@@ -7,7 +7,8 @@ use mathlib.Core.Bool.{Bool, true, false}
 use mathlib.Core.List.{List, [], ◌∷◌, ◌++◌, append_assoc, append-nil}
 use lib.Dec.{eqb, leb}
 use lib.ListN.{length, length-append}
-use Rattle.model.specs.Lists.{if◌then◌else◌, each, joined}
+use Rattle.std.specs.Prelude.{if◌then◌else◌}
+use Rattle.model.specs.Lists.{each, joined}
 use Rattle.model.specs.Bytes.{big_endian}
 use Rattle.model.specs.Blocks.{size}
 use Rattle.model.specs.Files.{turn, Record, bytes, record_at, words_of, count_of, pipeline_of, rules_of}

@@ -7,7 +7,7 @@ use mathlib.Core.List.{List}
 use borrow.Author.Tests.{lt-ltb, le-ltb, le-leb, lt-leb, leb-true}
 use lib.Dec.{ltb, leb}
 use lib.ListN.{length}
-use Rattle.model.specs.Lists.{if◌then◌else◌}
+use Rattle.std.specs.Prelude.{if◌then◌else◌}
 use Rattle.model.specs.Files.{Record, whole, fault, file_limit, bytes, records_from, held}
 use Rattle.model.specs.declared.Group.{Group}
 use Rattle.records.specs.declared.Runs.{Runs}

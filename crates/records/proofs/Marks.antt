@@ -9,7 +9,8 @@ use mathlib.Core.Option.{some}
 use borrow.Author.Tests.{eq-eqb, ne_eqb, eqb-true, le-leb, lt-leb, leb-true, leb-false}
 use lib.Dec.{eqb, leb}
 use lib.ListN.{length, get_or}
-use Rattle.model.specs.Lists.{if◌then◌else◌, word}
+use Rattle.std.specs.Prelude.{if◌then◌else◌}
+use Rattle.model.specs.Lists.{word}
 use Rattle.model.specs.Blocks.{size}
 use Rattle.model.specs.Files.{file_limit, turn, mark, groups, bytes, marked, marked_by}
 use Rattle.model.specs.declared.Group.{Group}

@@ -10,7 +10,8 @@ use mathlib.Core.Option.{Option, none, some}
 use borrow.Author.Tests.{lt-ltb, le-ltb, ltb-false, eq-eqb, ne_eqb}
 use lib.Dec.{eqb, ltb}
 use lib.ListN.{length}
-use Rattle.model.specs.Lists.{if◌then◌else◌, each}
+use Rattle.std.specs.Prelude.{if◌then◌else◌}
+use Rattle.model.specs.Lists.{each}
 use Rattle.model.specs.Files.{turn, groups, Record, Held, whole, fault, behind, bytes, record_at, marked_by, record_there, records_from}
 use Rattle.model.specs.declared.Group.{Group}
 use Rattle.records.specs.declared.Run.{Run}

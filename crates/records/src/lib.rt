@@ -2,8 +2,7 @@
 // and the root. What does not go on a run ends it, and what begins no later one is the file's first fault.
 #![tactic(auto)]
 
-ghost use Rattle.std.specs.Prelude.{◌≡◌, ◌+◌, ◌*◌, ◌≤◌, length, ltb};
-ghost use Rattle.model.specs.Lists.{if◌then◌else◌};
+ghost use Rattle.std.specs.Prelude.{◌≡◌, ◌+◌, ◌*◌, ◌≤◌, length, ltb, if◌then◌else◌};
 ghost use Rattle.model.specs.Blocks.{size};
 ghost use Rattle.model.specs.Files.{mark, marked, bytes, file_limit};
 ghost use Rattle.model.specs.Calls.{over, Loads};

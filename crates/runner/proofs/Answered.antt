@@ -9,7 +9,8 @@ use lib.Dec.{leb, ltb}
 use native.Mathlib.Nat.{min-le_left}
 use lib.ListN.{length, take, drop, length-take}
 use denote.Ref.{Bor}
-use Rattle.model.specs.Lists.{if◌then◌else◌, part}
+use Rattle.std.specs.Prelude.{if◌then◌else◌}
+use Rattle.model.specs.Lists.{part}
 use Rattle.model.specs.Blocks.{F, T, call_place, default_place}
 use Rattle.model.specs.Tables.{hit, part_of}
 use Rattle.model.specs.Good.{Within}

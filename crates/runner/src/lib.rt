@@ -1,8 +1,8 @@
 // Lookup, Run and Confirm: a pipeline, accepted with its rules, on one packet.
 #![tactic(auto)]
 
-ghost use Rattle.std.specs.Prelude.{◌≡◌, List, [], ltb, ℕ, ◌+◌, ◌≤◌, ◌<◌, length};
-ghost use Rattle.model.specs.Lists.{if◌then◌else◌, word, part};
+ghost use Rattle.std.specs.Prelude.{◌≡◌, List, [], ltb, ℕ, ◌+◌, ◌≤◌, ◌<◌, length, if◌then◌else◌};
+ghost use Rattle.model.specs.Lists.{word, part};
 ghost use Rattle.model.specs.Blocks.{F, T, widths};
 ghost use Rattle.model.specs.Tables.{hit, part_of};
 ghost use Rattle.model.specs.Good.{Within};

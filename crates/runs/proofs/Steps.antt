@@ -9,7 +9,8 @@ use mathlib.Core.List.{List, [], ◌∷◌}
 use borrow.Author.Tests.{ltb-true, ltb-false, eqb-true, eqb-false}
 use lib.Dec.{eqb, ltb}
 use lib.ListN.{length, drop_of_length-le}
-use Rattle.model.specs.Lists.{if◌then◌else◌, word}
+use Rattle.std.specs.Prelude.{if◌then◌else◌}
+use Rattle.model.specs.Lists.{word}
 use Rattle.model.specs.Blocks.{N, T, R, widths}
 use Rattle.model.specs.Trees.{Stmt, as_value, as_test, as_statement, tree, truth_of, bits_in}
 use Rattle.model.specs.Tables.{hit, call_of}

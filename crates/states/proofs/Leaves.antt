@@ -9,7 +9,8 @@ use borrow.Author.Tests.{ltb-true, lt-ltb, le-ltb, ne_eqb}
 use lib.ListN.{length, get_or, set, take, drop, drop_of_length-le}
 use lib.Seq.{drop-cons, take-set-lt}
 use Rattle.bits.specs.Width.{fits}
-use Rattle.model.specs.Lists.{if◌then◌else◌, word}
+use Rattle.std.specs.Prelude.{if◌then◌else◌}
+use Rattle.model.specs.Lists.{word}
 use Rattle.model.specs.Blocks.{F, widths, width}
 use Rattle.model.specs.Trees.{Val, Test, Stmt, bits_of, truth_of, bits_in}
 use Rattle.model.specs.Good.{Good, GoodValue}

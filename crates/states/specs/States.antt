@@ -1,6 +1,6 @@
 -- How the state and the ending that the code keeps by value stand for those of a run's definition. Assumes nothing: these are definitions.
-use Rattle.std.specs.Prelude.{ℕ, ◌≤◌, ◌≡◌, List, eqb, ltb, length, take, drop}
-use Rattle.model.specs.Lists.{if◌then◌else◌, word}
+use Rattle.std.specs.Prelude.{ℕ, ◌≤◌, ◌≡◌, List, eqb, ltb, length, take, drop, if◌then◌else◌}
+use Rattle.model.specs.Lists.{word}
 use Rattle.model.specs.Blocks.{F, widths}
 use Rattle.model.specs.Good.{Within}
 use Rattle.model.specs.Runs.{State, state, Outcome, passed, blocked, failed, refused}

@@ -1,8 +1,7 @@
 // Where a run stands, by value, and what the statements without children make of it.
 #![tactic(auto)]
 
-ghost use Rattle.std.specs.Prelude.{◌≡◌, List, ℕ, ◌+◌, ◌<◌, ◌^◌, set};
-ghost use Rattle.model.specs.Lists.{if◌then◌else◌};
+ghost use Rattle.std.specs.Prelude.{◌≡◌, List, ℕ, ◌+◌, ◌<◌, ◌^◌, set, if◌then◌else◌};
 ghost use Rattle.model.specs.Blocks.{F, N, T, widths};
 ghost use Rattle.model.specs.Trees.{Stmt, as_value, as_test, tree, truth_of, bits_in};
 ghost use Rattle.model.specs.Tables.{hit, call_of};

@@ -10,7 +10,8 @@ use mathlib.Core.List.{List, [], ◌∷◌, ◌++◌, append-nil}
 use lib.Dec.{eqb, ltb}
 use lib.ListN.{length}
 use borrow.Author.Tests.{lt-ltb, le-ltb, ltb-true, ltb-false}
-use Rattle.model.specs.Lists.{if◌then◌else◌, each, those, times, among}
+use Rattle.std.specs.Prelude.{if◌then◌else◌}
+use Rattle.model.specs.Lists.{each, those, times, among}
 use Rattle.model.specs.Blocks.{R}
 use Rattle.model.specs.Tables.{tried_before, placed, ordered, first_that}
 use Rattle.model.specs.declared.Hit.{Hit}

@@ -7,7 +7,8 @@ use mathlib.Core.List.{List, [], ◌∷◌}
 use lib.Dec.{eqb, ltb}
 use lib.ListN.{length}
 use borrow.Author.Tests.{eq-eqb, ne_eqb, eqb-true, eqb-false, lt-ltb, le-ltb}
-use Rattle.model.specs.Lists.{if◌then◌else◌, times, among}
+use Rattle.std.specs.Prelude.{if◌then◌else◌}
+use Rattle.model.specs.Lists.{times, among}
 use Rattle.model.specs.Blocks.{R, table_of}
 use Rattle.model.specs.Tables.{tried_before, of_table, tried, first_that}
 use Rattle.model.specs.declared.Hit.{Hit}

@@ -9,7 +9,7 @@ use mathlib.Core.Logic.{◌⊎◌, inl, inr}
 use mathlib.Core.List.{List}
 use borrow.Author.Tests.{eq-eqb, ne_eqb, eqb-true, eqb-false, lt-ltb, le-ltb, le-leb, not-false}
 use lib.Dec.{eqb, leb}
-use Rattle.model.specs.Lists.{if◌then◌else◌}
+use Rattle.std.specs.Prelude.{if◌then◌else◌}
 use Rattle.model.specs.Blocks.{R, table_of}
 use Rattle.model.specs.Tables.{tried_before, tried, first_that, of_table}
 use Rattle.model.specs.declared.Hit.{Hit}

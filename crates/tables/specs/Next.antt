@@ -1,6 +1,5 @@
 -- The rules of a table one after the other, in the order in which they are tried. Assumes nothing: these are definitions.
-use Rattle.std.specs.Prelude.{ℕ, Bool, true, List, [], ◌∷◌, eqb, ltb}
-use Rattle.model.specs.Lists.{if◌then◌else◌}
+use Rattle.std.specs.Prelude.{ℕ, Bool, true, List, [], ◌∷◌, eqb, ltb, if◌then◌else◌}
 use Rattle.model.specs.Blocks.{R}
 use Rattle.model.specs.Tables.{tried_before, tried, first_that}
 use Rattle.model.specs.declared.Hit.{Hit}

@@ -1,7 +1,7 @@
 -- How far a scan over the rules has come. Assumes nothing: these are definitions.
-use Rattle.std.specs.Prelude.{ℕ, ◌<◌, ◌≡◌, Bool, true, false, List, ltb}
+use Rattle.std.specs.Prelude.{ℕ, ◌<◌, ◌≡◌, Bool, true, false, List, ltb, if◌then◌else◌}
 use Rattle.bits.specs.Width as bits
-use Rattle.model.specs.Lists.{if◌then◌else◌, each, those, word}
+use Rattle.model.specs.Lists.{each, those, word}
 use Rattle.model.specs.Blocks.{R, key, value, mask}
 use Rattle.model.specs.Tables.{tried_before, of_table, ordered, first_that}
 use Rattle.model.specs.declared.Hit.{Hit}

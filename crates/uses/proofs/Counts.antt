@@ -9,7 +9,8 @@ use lib.Dec.{eqb, ltb}
 use lib.ListN.{length, set, replicate, length-set, length-replicate, get_or-replicate}
 use lib.Seq.{get_or-set_same, get_or-set_other}
 use borrow.Author.Tests.{eq-eqb, ne_eqb, eqb-true, eqb-false, le-ltb, ltb-true, ltb-false}
-use Rattle.model.specs.Lists.{if◌then◌else◌, word, each, joined, times}
+use Rattle.std.specs.Prelude.{if◌then◌else◌}
+use Rattle.model.specs.Lists.{word, each, joined, times}
 use Rattle.model.specs.Blocks.{N, A, root, pipeline_node, body}
 use Rattle.model.specs.Nodes.{child_in, children}
 use Rattle.model.specs.Refusals.{uses}

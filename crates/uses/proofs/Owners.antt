@@ -8,7 +8,8 @@ use lib.Dec.{eqb}
 use lib.ListN.{length, set, replicate, length-set, length-replicate, get_or-replicate}
 use lib.Seq.{get_or-set_same, get_or-set_other}
 use borrow.Author.Tests.{eqb-true, eqb-false}
-use Rattle.model.specs.Lists.{if◌then◌else◌, word, times, among}
+use Rattle.std.specs.Prelude.{if◌then◌else◌}
+use Rattle.model.specs.Lists.{word, times, among}
 use Rattle.model.specs.Blocks.{N, A, body}
 use Rattle.model.specs.Nodes.{child_in}
 use Rattle.model.specs.Refusals.{under_each, stands_under}

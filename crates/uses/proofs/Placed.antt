@@ -6,7 +6,8 @@ use mathlib.Core.Bool.{Bool, true, false, not, ◌&&◌}
 use mathlib.Core.List.{List}
 use lib.Dec.{eqb, ltb}
 use borrow.Author.Tests.{ne_eqb, lt-ltb, le-ltb}
-use Rattle.model.specs.Lists.{if◌then◌else◌, word, every, exists}
+use Rattle.std.specs.Prelude.{if◌then◌else◌}
+use Rattle.model.specs.Lists.{word, every, exists}
 use Rattle.model.specs.Blocks.{N, A, body, parameter_count, parameter_width, pipeline_node}
 use Rattle.model.specs.Refusals.{under_each, stands_under, placed_well}
 use Rattle.model.proofs.Every.{exists-at, exists-none, every_one}

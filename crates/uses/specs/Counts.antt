@@ -1,6 +1,6 @@
 -- How often the nodes are used, kept in an area of bytes. Assumes nothing: these are definitions.
-use Rattle.std.specs.Prelude.{ℕ, ◌<◌, ◌≡◌, List, ◌++◌, eqb, ltb, length}
-use Rattle.model.specs.Lists.{if◌then◌else◌, word, first_place, times}
+use Rattle.std.specs.Prelude.{ℕ, ◌<◌, ◌≡◌, List, ◌++◌, eqb, ltb, length, if◌then◌else◌}
+use Rattle.model.specs.Lists.{word, first_place, times}
 use Rattle.model.specs.Blocks.{N}
 use Rattle.model.specs.Refusals.{uses}
 

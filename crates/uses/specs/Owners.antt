@@ -1,6 +1,6 @@
 -- Under which action's body each node stands, kept in an area of bytes. Assumes nothing: these are definitions.
-use Rattle.std.specs.Prelude.{ℕ, ◌+◌, ◌-◌, ◌<◌, ◌≤◌, ◌≡◌, Bool, true, ◌&&◌, List, eqb, ltb, length}
-use Rattle.model.specs.Lists.{if◌then◌else◌, word, first_place, times, among}
+use Rattle.std.specs.Prelude.{ℕ, ◌+◌, ◌-◌, ◌<◌, ◌≤◌, ◌≡◌, Bool, true, ◌&&◌, List, eqb, ltb, length, if◌then◌else◌}
+use Rattle.model.specs.Lists.{word, first_place, times, among}
 use Rattle.model.specs.Blocks.{N, A, body, parameter_count, parameter_width, pipeline_node}
 use Rattle.model.specs.Nodes.{is_formed, is_statement, children}
 use Rattle.model.specs.Refusals.{pipeline_sorts, sort_at, uses, under_each, stands_under, placed_well}

@@ -10,7 +10,7 @@ use borrow.Author.Tests.{eq-eqb, ne_eqb}
 use lib.Dec.{eqb}
 use lib.ListN.{length, take, get_or, length-append}
 use lib.Seq.{take-suc, length-take-le}
-use Rattle.model.specs.Lists.{if◌then◌else◌}
+use Rattle.std.specs.Prelude.{if◌then◌else◌}
 use Rattle.model.specs.Passive.{Equation, equations}
 use Rattle.model.specs.Emit.{Side, past, form_limit, emit_equations}
 use Rattle.pieces.specs.Pieces.{Emitted, Start}

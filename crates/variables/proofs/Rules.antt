@@ -9,7 +9,7 @@ use mathlib.Core.List.{List, [], ◌∷◌, ◌++◌, append_assoc, append-nil}
 use lib.Dec.{eqb}
 use lib.ListN.{length, take, drop, get_or, set, length-set, drop_of_length-le}
 use lib.Seq.{sets, drop-cons, take-suc-set}
-use Rattle.model.specs.Lists.{if◌then◌else◌}
+use Rattle.std.specs.Prelude.{if◌then◌else◌}
 use Rattle.model.specs.Passive.{JoinRule, joined_vars, new_widths}
 use Rattle.variables.specs.Variables.{vars}
 use Rattle.variables.specs.Sides.{Sized, Numbered, JoinsVars}

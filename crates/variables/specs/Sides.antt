@@ -1,7 +1,6 @@
 -- What the steps of a join do: the joined variables with their widths, and the equations of the sides. Assumes nothing: these are definitions.
-use Rattle.std.specs.Prelude.{ℕ, suc, ◌+◌, ◌≤◌, ◌≡◌, List, [], ◌∷◌, ◌++◌, eqb, length, take, set}
+use Rattle.std.specs.Prelude.{ℕ, suc, ◌+◌, ◌≤◌, ◌≡◌, List, [], ◌∷◌, ◌++◌, eqb, length, take, set, if◌then◌else◌}
 use Rattle.std.proofs.lemmas.List.Edits.{sets}
-use Rattle.model.specs.Lists.{if◌then◌else◌}
 use Rattle.model.specs.Blocks.{F, node}
 use Rattle.model.specs.Passive.{JoinRule, Equation, joined_vars, new_widths, equations}
 use Rattle.model.specs.Emit.{past, form_limit, emit_equations}
