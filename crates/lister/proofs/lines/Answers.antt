@@ -1,0 +1,12 @@
+-- `lister::lines` meets its contract. Assumes nothing.
+use Rattle.std.proofs.Common.{rules}
+use Prim.Native.Nat.{◌-◌}
+use Rattle.model.specs.Blocks.{plain_node}
+use Rattle.lister.proofs.Listed.{Listed, begins, line_room_lem, goes_on, ends}
+use Rattle.lister.proofs.lines.Goals as goal
+
+pub loop-i-init : goal.loop-i-init
+loop-i-init c = begins _ _ _ _ (search rules)
+
+pub loop-i-preserved : goal.loop-i-preserved
+loop-i-preserved c = search (rules, goes_on)
