@@ -7,20 +7,13 @@ use Rattle.lister.proofs.Told.{few-nodes, nodes-room, form_adds, form-refused}
 use Rattle.lister.proofs.form.Goals as goal
 
 pub heading-at-requires-clause-nodes_bound : goal.heading-at-requires-clause-nodes_bound
-heading-at-requires-clause-nodes_bound c = let k = c in
-    (few-nodes k.passify.ensures (zeros node_room) (zeros width_room) k.count-1.given.1 (search rules), search rules)
+heading-at-requires-clause-nodes_bound c = few-nodes c.passify.ensures (zeros node_room) (zeros width_room) c.in-Form.is (search rules)
 
 pub lines-requires-clause-count_in_bounds : goal.lines-requires-clause-count_in_bounds
-lines-requires-clause-count_in_bounds c = let k = c in
-    let passified = k.passify.ensures in
-    let few = few-nodes passified (zeros node_room) (zeros width_room) k.count-1.given.1 (search rules) in
-    (nodes-room passified (zeros node_room) (zeros width_room) k.count-1.given.1 (search rules), omega (arith, few))
+lines-requires-clause-count_in_bounds c = nodes-room c.passify.ensures (zeros node_room) (zeros width_room) c.in-Form.is (search rules)
 
 pub lines-requires-clause-count_in_bounds_2 : goal.lines-requires-clause-count_in_bounds_2
-lines-requires-clause-count_in_bounds_2 c = let k = c in
-    let passified = k.passify.ensures in
-    let few = few-nodes passified (zeros node_room) (zeros width_room) k.count-1.given.1 (search rules) in
-    (nodes-room passified (zeros node_room) (zeros width_room) k.count-1.given.1 (search rules), omega (arith, few))
+lines-requires-clause-count_in_bounds_2 c = let few = few-nodes c.passify.ensures (zeros node_room) (zeros width_room) c.in-Form.is (search rules) in omega (arith, few)
 
 pub returns-in-Form : goal.returns-in-Form
 returns-in-Form c = search (rules, form_adds)

@@ -1,7 +1,6 @@
 -- `lister::line` meets its contract. Assumes nothing.
-use Rattle.std.proofs.Common.{rules}
 use Rattle.lister.proofs.Written.{line_adds}
 use Rattle.lister.proofs.line.Goals as goal
 
 pub returns-clause-adds : goal.returns-clause-adds
-returns-clause-adds c = (search line_adds, search rules)
+returns-clause-adds c = search line_adds

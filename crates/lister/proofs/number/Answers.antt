@@ -11,7 +11,7 @@ pub put-requires : goal.put-requires
 put-requires c = search (rules, last-room)
 
 pub returns-clause-adds : goal.returns-clause-adds
-returns-clause-adds c = (search follow, search number_end)
+returns-clause-adds c = search follow
 
 pub returns-clause-upper_bound : goal.returns-clause-upper_bound
-returns-clause-upper_bound c = (search follow, search number_end)
+returns-clause-upper_bound c = search number_end
