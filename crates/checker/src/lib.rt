@@ -312,6 +312,7 @@ fn first_rule(p: &[u32], r: &[u32]) -> usize
 }
 
 // 7 to 9: the root is a statement, each node has one place, and parameters and applies have theirs.
+#[tactic(auto, using(crate::proofs::Judged::judged, crate::proofs::Judged::passed), unfolding(crate::specs::Rows::tree_rows))]
 fn check_trees(p: &[u32], codes: &[u8; 1024]) -> Checked
     requires sized { Sized p.now }
     requires coded { Coded codes.now (pipeline_sorts p.now) (N p.now) }
@@ -334,6 +335,7 @@ fn check_trees(p: &[u32], codes: &[u8; 1024]) -> Checked
 }
 
 // 5 to 9, where the sorts of the nodes are known.
+#[tactic(auto, using(crate::proofs::Judged::judged, crate::proofs::Judged::passed), unfolding(crate::specs::Rows::sorted_rows))]
 fn check_sorted(p: &[u32], codes: &[u8; 1024]) -> Checked
     requires sized { Sized p.now }
     requires coded { Coded codes.now (pipeline_sorts p.now) (N p.now) }
@@ -352,6 +354,7 @@ fn check_sorted(p: &[u32], codes: &[u8; 1024]) -> Checked
 }
 
 // 3 to 9: what the pipeline block says by itself.
+#[tactic(auto, using(crate::proofs::Judged::judged, crate::proofs::Judged::passed), unfolding(crate::specs::Rows::pipeline_rows))]
 fn check_pipeline(p: &[u32]) -> Checked
     requires { Sized p.now }
     ensures { checked result ≡ told (λ _. []) (judge (pipeline_rows p.now)) }
@@ -369,6 +372,7 @@ fn check_pipeline(p: &[u32]) -> Checked
 }
 
 // 10, where the pipeline is accepted.
+#[tactic(auto, using(crate::proofs::Judged::judged), unfolding(crate::specs::Rows::rule_rows))]
 fn check_rules(p: &[u32], r: &[u32]) -> Checked
     requires whole { Whole p.now }
     requires passes { Passes (field_row p.now) }
@@ -384,6 +388,7 @@ fn check_rules(p: &[u32], r: &[u32]) -> Checked
     }
 }
 
+#[tactic(auto, using(crate::proofs::Judged::sized, crate::proofs::Judged::whole))]
 pub fn check(pipeline: &[u32], rules: &[u32]) -> Checked
     ensures { Checks pipeline.now rules.now result }
 {

@@ -12,7 +12,7 @@ use lib.Dec.{leb}
 use lib.ListN.{set, length, take, length-set}
 use lib.Seq.{take-set-le, take-suc-set}
 use Rattle.model.specs.Lists.{each}
-use Rattle.model.specs.Blocks.{F, root, words, width, widths}
+use Rattle.model.specs.Blocks.{F, root, width, widths}
 use Rattle.model.specs.Passive.{packet_vars, passive_by}
 use Rattle.model.specs.Emit.{Emitted, form_limit, past, passive_form}
 use Rattle.model.specs.Answers.{done, refused, after}

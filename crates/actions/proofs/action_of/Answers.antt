@@ -1,7 +1,7 @@
 -- `actions::action_of` meets its contract. Assumes nothing.
 use Rattle.std.proofs.Common.{rules}
 use Rattle.blocks.proofs.Accepted.{whole}
-use Rattle.actions.proofs.Actions.{rule-below, rule-room, rule-action, rule_calls, default_room, default_action, default_calls}
+use Rattle.actions.proofs.Actions.{rule-room, rule-action, default_room, default_action}
 use Rattle.actions.proofs.action_of.Goals as goal
 
 pub action_at-requires-clause-whole : goal.action_at-requires-clause-whole

@@ -5,5 +5,5 @@ use Rattle.model.proofs.Accepted.{parameter_narrow}
 use Rattle.checker.proofs.datum_well.Goals as goal
 
 pub fits-requires : goal.fits-requires
-fits-requires c = let s = c in
-    omega (arith, c.parameter_width-width.ensures, parameter_narrow _ s.args.action c.wide.result (s.requires.passes.at s.args.action (search rules)) (search rules))
+fits-requires c =
+    omega (arith, parameter_narrow _ c.args.action c.wide.result (c.requires.passes.at c.args.action (search rules)) (search rules))

@@ -35,12 +35,12 @@ pub chain_at-statement_at-requires : goal.chain_at-statement_at-requires
 chain_at-statement_at-requires t c = body_asks c.args.p.now c.args.r.now c.requires.accepted c.requires.t_bound Hit.Default (no-rule c.args.r.now) c.action_of-action.result c.action_of-action.ensures (omega (arith, c.decreases)) c.requires.few
 
 pub chain_at-returns-in-Rule : goal.chain_at-returns-in-Rule
-chain_at-returns-in-Rule t c = 
+chain_at-returns-in-Rule t c =
     rw (← chain_is c.args.p.now c.args.r.now c.args.t _ (of_rule c.args.p.now c.args.r.now c.requires.accepted c.requires.t_bound c.requires.of_table c.in-Rule.is c.decreases c.requires.few) c.in-Rule.is)
     (choice_writes Origin.of_chain c.rule_at-left.ensures c.rule_at-left.auto.nodes (rw c.beside.ensures at c.rest_at-right.ensures) c.rest_at-right.auto.nodes c.join_behind.ensures.at_le_at c.join_behind.ensures.few_2 c.join_behind.ensures.joined_behind)
 
 pub chain_at-returns-in-Default : goal.chain_at-returns-in-Default
-chain_at-returns-in-Default t c = 
+chain_at-returns-in-Default t c =
     rw (← default_is c.args.p.now c.args.r.now c.args.t c.in-Default.is, ← body_is c.args.p.now c.args.r.now c.requires.accepted c.requires.t_bound Hit.Default (no-rule c.args.r.now) c.action_of-action.result c.action_of-action.ensures)
     c.statement_at.ensures
 
@@ -51,7 +51,7 @@ pub choice_at-join_behind-requires-clause-p_bound : goal.choice_at-join_behind-r
 choice_at-join_behind-requires-clause-p_bound t c = few-fields _ _ c.requires.statement.accepted
 
 pub choice_at-returns : goal.choice_at-returns
-choice_at-returns t c = 
+choice_at-returns t c =
     choice_writes Origin.of_pipeline c.statement_at-left.ensures c.statement_at-left.auto.nodes (rw c.beside.ensures at c.statement_at-right.ensures)
     c.statement_at-right.auto.nodes c.join_behind.ensures.at_le_at c.join_behind.ensures.few_2 c.join_behind.ensures.joined_behind
 
@@ -62,7 +62,7 @@ pub rest_at-pair_behind-requires-clause-le_left : goal.rest_at-pair_behind-requi
 rest_at-pair_behind-requires-clause-le_left t c = (c.guard_at-guard.ensures []).some
 
 pub rest_at-returns : goal.rest_at-returns
-rest_at-returns t c = 
+rest_at-returns t c =
     sequence_writes (c.guard_at-guard.ensures c.args.widths.now) c.guard_at-guard.auto.nodes (rw c.next.ensures at c.chain_at-rest.ensures) c.chain_at-rest.auto.nodes
     c.pair_behind.ensures.behind c.pair_behind.ensures.vars_value
 
@@ -73,13 +73,13 @@ pub rule_at-pair_behind-requires-clause-le_left : goal.rule_at-pair_behind-requi
 rule_at-pair_behind-requires-clause-le_left t c = (c.guard_at-guard.ensures []).some
 
 pub rule_at-returns : goal.rule_at-returns
-rule_at-returns t c = 
+rule_at-returns t c =
     sequence_writes (c.guard_at-guard.ensures c.args.widths.now) c.guard_at-guard.auto.nodes
     (rw (body_is c.args.p.now c.args.r.now c.requires.accepted c.requires.t_bound (Hit.Rule c.args.i) (same-rule c.args.r.now c.requires.i_bound) c.action_of-action.result c.action_of-action.ensures) at c.statement_at-body.ensures)
     c.statement_at-body.auto.nodes c.pair_behind.ensures.behind c.pair_behind.ensures.vars_value
 
 pub sequence_at-returns : goal.sequence_at-returns
-sequence_at-returns t c = 
+sequence_at-returns t c =
     sequence_writes c.statement_at-left.ensures c.statement_at-left.auto.nodes c.statement_at-right.ensures c.statement_at-right.auto.nodes
     c.pair_behind.ensures.behind c.pair_behind.ensures.vars_value
 
@@ -165,6 +165,6 @@ pub statement_at-returns-in-Apply : goal.statement_at-returns-in-Apply
 statement_at-returns-in-Apply t c = rw (← apply_is (here t (goal.at.statement_at-returns-in-Apply t c).After-kind_in) c.in-Apply.is c.rule_count.ensures c.next-hit.ensures) c.chain_at.ensures
 
 pub statement_at-returns-in_default : goal.statement_at-returns-in_default
-statement_at-returns-in_default t c = 
+statement_at-returns-in_default t c =
     let o : Skips c.kind_in.result = record { assign = c.in_default.not-Assign; havoc = c.in_default.not-Havoc; assume = c.in_default.not-Assume; assert = c.in_default.not-Assert; sequence = c.in_default.not-Sequence; choice = c.in_default.not-Choice; apply = c.in_default.not-Apply } in
     rest_gives (here t (goal.at.statement_at-returns-in_default t c).After-kind_in) o (c.skip_at.ensures c.args.p.now c.args.widths.now)

@@ -1,7 +1,5 @@
 -- `forms::assign_at` meets its contract. Assumes nothing.
-use mathlib.Core.Path.{◌∙◌}
-use Rattle.pieces.proofs.Expressions.{value_expression}
-use Rattle.forms.proofs.Writes.{few-variables, assign_writes}
+use Rattle.forms.proofs.Writes.{assign_writes}
 use Rattle.forms.proofs.assign_at.Goals as goal
 
 pub returns : goal.returns

@@ -1,7 +1,6 @@
 -- `forms::guard_at` meets its contract. Assumes nothing.
 use Rattle.std.proofs.Common.{rules}
 use Rattle.blocks.proofs.Accepted.{whole, few-fields}
-use Rattle.forms.proofs.Writes.{guard_writes}
 use Rattle.forms.proofs.guard_at.Goals as goal
 
 pub fields-requires-clause-whole : goal.fields-requires-clause-whole

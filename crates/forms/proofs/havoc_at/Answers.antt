@@ -1,5 +1,5 @@
 -- `forms::havoc_at` meets its contract. Assumes nothing.
-use Rattle.forms.proofs.Writes.{few-variables, havoc_writes}
+use Rattle.forms.proofs.Writes.{havoc_writes}
 use Rattle.forms.proofs.havoc_at.Goals as goal
 
 pub returns : goal.returns

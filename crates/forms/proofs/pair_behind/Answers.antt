@@ -1,5 +1,4 @@
 -- `forms::pair_behind` meets its contract. Assumes nothing.
-use mathlib.Core.Path.{refl}
 use Rattle.forms.proofs.pair_behind.Goals as goal
 
 pub returns-clause-behind : goal.returns-clause-behind

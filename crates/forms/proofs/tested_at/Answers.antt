@@ -1,5 +1,4 @@
 -- `forms::tested_at` meets its contract. Assumes nothing.
-use Rattle.pieces.proofs.Expressions.{test_expression}
 use Rattle.forms.proofs.Writes.{test_writes}
 use Rattle.forms.proofs.tested_at.Goals as goal
 

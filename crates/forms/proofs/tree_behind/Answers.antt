@@ -1,5 +1,4 @@
 -- `forms::tree_behind` meets its contract. Assumes nothing.
-use mathlib.Core.Path.{refl}
 use Rattle.forms.proofs.tree_behind.Goals as goal
 
 pub returns-clause-behind : goal.returns-clause-behind

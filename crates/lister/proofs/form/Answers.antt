@@ -3,7 +3,7 @@ use Rattle.std.proofs.Common.{rules}
 use native.Mathlib.Omega.{arith}
 use Rattle.model.specs.Listing.{node_room, width_room}
 use Rattle.lister.proofs.Written.{zeros}
-use Rattle.lister.proofs.Told.{few-nodes, nodes-room, form_adds, form-refused}
+use Rattle.lister.proofs.Told.{few-nodes, nodes-room, form_adds}
 use Rattle.lister.proofs.form.Goals as goal
 
 pub heading-at-requires-clause-nodes_bound : goal.heading-at-requires-clause-nodes_bound

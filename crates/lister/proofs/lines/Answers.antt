@@ -1,8 +1,6 @@
 -- `lister::lines` meets its contract. Assumes nothing.
 use Rattle.std.proofs.Common.{rules}
-use Prim.Native.Nat.{◌-◌}
-use Rattle.model.specs.Blocks.{plain_node}
-use Rattle.lister.proofs.Listed.{Listed, begins, line_room_lem, goes_on, ends}
+use Rattle.lister.proofs.Listed.{begins, goes_on}
 use Rattle.lister.proofs.lines.Goals as goal
 
 pub loop-i-init : goal.loop-i-init

@@ -1,7 +1,7 @@
 -- The invariants of `lister::lines`. Assumes nothing.
 use Prim.Native.Nat.{◌-◌}
 use Rattle.model.specs.Blocks.{plain_node}
-use Rattle.lister.proofs.Listed.{Listed, begins, line_room_lem, goes_on, ends}
+use Rattle.lister.proofs.Listed.{Listed}
 use Rattle.lister.proofs.lines.Given as goal
 
 abbrev pub invariant-loop-i : goal.invariant-loop-i

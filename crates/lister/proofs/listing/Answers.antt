@@ -1,6 +1,6 @@
 -- `lister::listing` meets its contract. Assumes nothing.
 use Rattle.std.proofs.Common.{rules}
-use Rattle.lister.proofs.Told.{pipeline-room, pipeline-counted, rules-room, rules-counted, listed, load-refused}
+use Rattle.lister.proofs.Told.{listed, load-refused}
 use Rattle.lister.proofs.listing.Goals as goal
 
 pub returns-in-Blocks : goal.returns-in-Blocks

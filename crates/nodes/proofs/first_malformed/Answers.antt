@@ -3,7 +3,7 @@ use native.Mathlib.Omega.{arith}
 use mathlib.Core.Path.{◌≡◌, refl}
 use lib.ListN.{length-set}
 use Rattle.nodes.specs.Codes.{sort_from}
-use Rattle.nodes.proofs.Kept.{own, kept_none, kept_child, child_low, kept_own, kept_stop, kept_more, kept_end}
+use Rattle.nodes.proofs.Kept.{own, kept_none, kept_child, child_low, kept_own, kept_stop, kept_more}
 use Rattle.nodes.proofs.first_malformed.Goals as goal
 use Rattle.nodes.proofs.first_malformed.Goals.{After-sort_of-sort}
 

@@ -1,8 +1,8 @@
 -- The invariants of `nodes::first_malformed`. Assumes nothing.
 use Prim.Native.Nat.{◌-◌}
-use mathlib.Core.Path.{◌≡◌, refl}
-use lib.ListN.{length, length-set}
-use Rattle.nodes.proofs.Kept.{Kept, own, kept_none, kept_child, child_low, kept_own, kept_stop, kept_more, kept_end}
+use mathlib.Core.Path.{◌≡◌}
+use lib.ListN.{length}
+use Rattle.nodes.proofs.Kept.{Kept}
 use Rattle.nodes.proofs.first_malformed.Given as goal
 
 abbrev pub invariant-loop-i : goal.invariant-loop-i

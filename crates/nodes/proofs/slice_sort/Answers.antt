@@ -1,5 +1,5 @@
 -- `nodes::slice_sort` meets its contract. Assumes nothing.
-use borrow.Author.Tests.{lt-ltb, le-ltb, le-leb, lt-leb}
+use borrow.Author.Tests.{lt-ltb, le-ltb, lt-leb}
 use Rattle.nodes.proofs.Bytes.{malformed_byte}
 use Rattle.nodes.proofs.slice_sort.Goals as goal
 

@@ -1,6 +1,5 @@
 -- `nodes::sort_by` meets its contract. Assumes nothing.
 use mathlib.Core.Path.{sym}
-use native.Mathlib.Omega.{arith}
 use Rattle.nodes.proofs.Arms.{arms}
 use Rattle.nodes.proofs.sort_by.Goals as goal
 

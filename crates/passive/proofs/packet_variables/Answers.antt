@@ -1,8 +1,6 @@
 -- `passive::packet_variables` meets its contract. Assumes nothing.
 use Rattle.std.proofs.Common.{rules}
-use Prim.Native.Nat.{◌-◌}
-use native.Mathlib.Omega.{arith}
-use Rattle.passive.proofs.Formed.{Numbered, none_numbered, more_numbered}
+use Rattle.passive.proofs.Formed.{none_numbered, more_numbered}
 use Rattle.passive.proofs.packet_variables.Goals as goal
 
 pub loop-i-init : goal.loop-i-init

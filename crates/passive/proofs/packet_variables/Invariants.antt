@@ -1,6 +1,6 @@
 -- The invariants of `passive::packet_variables`. Assumes nothing.
 use Prim.Native.Nat.{◌-◌}
-use Rattle.passive.proofs.Formed.{Numbered, none_numbered, more_numbered}
+use Rattle.passive.proofs.Formed.{Numbered}
 use Rattle.passive.proofs.packet_variables.Given as goal
 
 abbrev pub invariant-loop-i : goal.invariant-loop-i

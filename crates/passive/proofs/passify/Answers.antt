@@ -1,5 +1,5 @@
 -- `passive::passify` meets its contract. Assumes nothing.
-use Rattle.passive.proofs.Formed.{check-accepted, check-refused}
+use Rattle.passive.proofs.Formed.{check-refused}
 use Rattle.passive.proofs.passify.Goals as goal
 
 pub returns-in-Refused : goal.returns-in-Refused

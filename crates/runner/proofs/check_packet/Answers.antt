@@ -1,5 +1,5 @@
 -- `runner::check_packet` meets its contract. Assumes nothing.
-use Rattle.runner.proofs.Started.{packet-judged, lent_narrow}
+use Rattle.runner.proofs.Started.{packet-judged}
 use Rattle.runner.proofs.check_packet.Goals as goal
 
 pub returns-then-packet-widths : goal.returns-then-packet-widths

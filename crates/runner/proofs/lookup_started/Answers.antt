@@ -1,7 +1,7 @@
 -- `runner::lookup_started` meets its contract. Assumes nothing.
 use Rattle.blocks.proofs.Accepted.{whole}
 use Rattle.states.proofs.Actions.{hit_there}
-use Rattle.runner.proofs.Answered.{lends, no_table, table_below, rule_found, default_found, rule-inside, default_inside}
+use Rattle.runner.proofs.Answered.{lends, table_below, rule_found, default_found, rule-inside, default_inside}
 use Rattle.runner.proofs.lookup_started.Goals as goal
 
 pub table_count-requires : goal.table_count-requires

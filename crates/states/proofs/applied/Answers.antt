@@ -1,6 +1,6 @@
 -- `states::applied` meets its contract. Assumes nothing.
 use Rattle.std.proofs.Common.{rules}
-use Rattle.states.proofs.Actions.{hit_there, tables_lent, calls_lent}
+use Rattle.states.proofs.Actions.{hit_there, tables_lent}
 use Rattle.states.proofs.applied.Goals as goal
 
 pub hit-requires : goal.hit-requires

@@ -1,5 +1,5 @@
 -- `states::havoc` meets its contract. Assumes nothing.
-use Rattle.states.proofs.Leaves.{width_narrow, used-fits, havoc-short, havoc-wrong, havoc-taken}
+use Rattle.states.proofs.Leaves.{width_narrow, havoc-short, havoc-wrong, havoc-taken}
 use Rattle.states.proofs.havoc.Goals as goal
 
 pub returns-then-choices-used : goal.returns-then-choices-used

@@ -1,10 +1,5 @@
 -- `tables::hit` meets its contract. Assumes nothing.
-use Prim.Native.Nat.{◌-◌, ◌≤◌}
 use native.Mathlib.Omega.{arith}
-use mathlib.Core.Path.{◌≡◌}
-use Rattle.model.specs.Blocks.{R}
-use Rattle.model.specs.Tables.{matches}
-use Rattle.tables.specs.Scan.{first_to, hit_from}
 use Rattle.tables.proofs.Scan.{none_yet, found_last, found_settled}
 use Rattle.tables.proofs.hit.Goals as goal
 use Rattle.tables.proofs.hit.Goals.{then-loop-i-test+else-not-settled, else-loop-i-test}

@@ -1,8 +1,5 @@
 -- `tables::matches` meets its contract. Assumes nothing.
-use Prim.Native.Nat.{◌-◌}
-use native.Mathlib.Omega.{arith}
-use Rattle.tables.proofs.Fitting.{there}
-use Rattle.tables.proofs.Keys.{Matched, begins, goes_on, stops, ends}
+use Rattle.tables.proofs.Keys.{begins, goes_on, stops, ends}
 use Rattle.tables.proofs.matches.Goals as goal
 
 pub loop-j-init : goal.loop-j-init

@@ -1,6 +1,6 @@
 -- The invariants of `tables::matches`. Assumes nothing.
 use Prim.Native.Nat.{◌-◌}
-use Rattle.tables.proofs.Keys.{Matched, begins, goes_on, stops, ends}
+use Rattle.tables.proofs.Keys.{Matched}
 use Rattle.tables.proofs.matches.Given as goal
 
 abbrev pub invariant-loop-j : goal.invariant-loop-j

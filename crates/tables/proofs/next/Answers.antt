@@ -1,10 +1,5 @@
 -- `tables::next` meets its contract. Assumes nothing.
-use Prim.Native.Nat.{◌-◌, ◌≤◌}
 use native.Mathlib.Omega.{arith}
-use mathlib.Core.Path.{◌≡◌}
-use Rattle.model.specs.Blocks.{R}
-use Rattle.tables.specs.Next.{comes_after}
-use Rattle.tables.specs.Scan.{first_to, hit_from}
 use Rattle.tables.proofs.Scan.{none_below, found_last, found_settled}
 use Rattle.tables.proofs.next.Goals as goal
 use Rattle.tables.proofs.next.Goals.{then-loop-i-test+else-not-settled, else-loop-i-test}

@@ -2,7 +2,6 @@
 use mathlib.Core.Path.{refl, ap, ◌∙◌}
 use Rattle.model.specs.Trees.{bits_of, of_width}
 use Rattle.model.specs.Good.{GoodValue}
-use Rattle.model.specs.declared.Kind.{Kind}
 use Rattle.values.proofs.Nodes.{ValueOf, TestOf, here, child, arms, complement_asks, slice_asks, binary_asks, join_asks}
 use Rattle.values.proofs.Others.{no_value, no_test}
 use Rattle.values.proofs.+bits_at_truth_at.Goals as goal
