@@ -16,9 +16,9 @@ if [ "$(uname -m)" != x86_64 ]; then
     limited=(qemu-x86_64 -s 1048576)
 fi
 
-rt staticlib capi
+(cd crates/capi && rt lib)
 mkdir -p "$work"
-"${compiler[@]}" -std=c99 -O2 -Wall -Wextra -Werror -Iinclude tests/driver.c target/staticlib/libcapi.a -o "$work/driver"
+"${compiler[@]}" -std=c99 -O2 -Wall -Wextra -Werror -Iinclude tests/driver.c crates/capi/out/libcapi.a -o "$work/driver"
 rows=()
 for call in load check run passify; do
     tests/${call}_rows.py >"$work/${call}_rows.txt"

@@ -6,13 +6,13 @@ set -eu
 cd "$(dirname "$0")/.."
 
 work=target/listing
-program=(target/bin/listing)
+program=(crates/listing/out/listing)
 if [ "$(uname -m)" != x86_64 ]; then
     libraries=$(dirname "$(x86_64-linux-gnu-gcc -print-file-name=libc.so.6)")
-    program=(qemu-x86_64 "$libraries/ld-linux-x86-64.so.2" --library-path "$libraries" target/bin/listing)
+    program=(qemu-x86_64 "$libraries/ld-linux-x86-64.so.2" --library-path "$libraries" crates/listing/out/listing)
 fi
 
-rt check listing
+(cd crates/listing && rt run <stdin >/dev/null)
 rm -rf "$work"
 mkdir -p "$work/made" "$work/vectors"
 tests/listing/make.py "$work/made"
