@@ -2,7 +2,7 @@
 use Prim.Native.Nat.{ℕ, ◌+◌, ◌-◌, ◌≤◌, ◌<◌}
 use native.Mathlib.Numerals.{add-one}
 use native.Mathlib.Omega.{arith}
-use mathlib.Core.Path.{◌≡◌, ap, ◌∙◌}
+use mathlib.Core.Path.{◌≡◌, refl, ap, ◌∙◌}
 use mathlib.Core.Bool.{Bool, true, false}
 use mathlib.Core.List.{List, [], ◌∷◌}
 use lib.ListN.{get_or, length}
@@ -86,6 +86,9 @@ pub record Matched (p r current : List ℕ) (i at count : ℕ) (nodes₀ : List 
       → Behind (emit_test (renamed_test current (key_tests p r i j))) 0 at before nodes to
 
 module _ (p r current : List ℕ) (i at count : ℕ) (nodes₀ : List ℕ) (to₀ : ℕ) where
+  pub begins : 1 ≤ to₀ → Matched p r current i at count nodes₀ to₀ nodes₀ to₀ 0
+  begins some = record { within = omega arith; some = some; same = refl; written = λ same b. b }
+
   pub goes_on : {nodes nodes' : List ℕ} {to to' j : ℕ} → Matched p r current i at count nodes₀ to₀ nodes to j → j < count
       → KeyBehind p r current i j to nodes nodes' to' → length nodes' ≡ length nodes → Matched p r current i at count nodes₀ to₀ nodes' to' (j + 1)
   goes_on m h k kept =

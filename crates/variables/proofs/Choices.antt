@@ -1,5 +1,5 @@
 -- The equations of both sides of a choice, the choice, and the whole join. Assumes nothing.
-use Prim.Native.Nat.{ℕ, ◌-◌, ◌≤◌}
+use Prim.Native.Nat.{ℕ, ◌-◌, ◌≤◌, ◌<◌}
 use native.Mathlib.Omega.{arith}
 use mathlib.Core.Path.{◌≡◌, refl, ◌∙◌}
 use mathlib.Core.List.{List, [], ◌∷◌, append_assoc}
@@ -11,7 +11,7 @@ use Rattle.model.specs.Emit.{form_limit, emit_equations}
 use Rattle.model.specs.declared.Node.{Node}
 use Rattle.model.proofs.Lists.{length-each}
 use Rattle.pieces.specs.Pieces.{Emitted, Start}
-use Rattle.pieces.proofs.Pieces.{lent, back, fits_so}
+use Rattle.pieces.proofs.Pieces.{lent, back, beyond, fits_so}
 use Rattle.variables.specs.declared.Vars.{Vars}
 use Rattle.variables.specs.declared.Made.{Made}
 use Rattle.variables.specs.declared.Tied.{Tied}
@@ -73,3 +73,8 @@ module _ (p : List ℕ) (before : Vars) (left right : Made) (v : Vars) {nodes no
       holds = λ _.
           more h (new_widths (next r) (widths p) (joined_of b l r)) (joined_of b l r) (rw (same, h.new) at j.written) own (rw (same, h.new) at j.number);
     }
+
+-- nothing is said of what stands above the limit
+pub too_large : {p start nodes nodes' area : List ℕ} {b l r : passive.Vars} {left right : ℕ} {v : Vars} → form_limit < right
+    → Joins p start b l r left right nodes nodes' area (made right v)
+too_large h = record { emitted = beyond _ _ _ _ h; holds = λ k. absurd (omega arith) }

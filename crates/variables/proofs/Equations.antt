@@ -9,12 +9,12 @@ use mathlib.Core.List.{List, [], ◌∷◌, ◌++◌}
 use borrow.Author.Tests.{eq-eqb, ne_eqb}
 use lib.Dec.{eqb}
 use lib.ListN.{length, take, get_or, length-append}
-use lib.Seq.{take-suc, length-take-le}
+use lib.Seq.{take-suc, take_all, length-take-le}
 use Rattle.std.specs.Prelude.{if◌then◌else◌}
 use Rattle.model.specs.Passive.{Equation, equations}
 use Rattle.model.specs.Emit.{Side, past, form_limit, emit_equations}
 use Rattle.pieces.specs.Pieces.{Emitted, Start}
-use Rattle.pieces.proofs.Pieces.{lent, back, nothing}
+use Rattle.pieces.proofs.Pieces.{lent, back, nothing, beyond}
 use Rattle.variables.specs.declared.Tied.{Tied}
 use Rattle.variables.specs.Sides.{Ties, equation_nodes}
 use Rattle.variables.proofs.Behind.{behind_fit, length_back}
@@ -56,6 +56,9 @@ emit-append (e ∷ es) fs side at =
 no-equations : (side at : ℕ) (area : List ℕ) → Ties [] side at area area (tied at side)
 unfolding emit_equations
 no-equations side at area = record { emitted = nothing at area; onto = λ h. refl }
+
+pub too_far : {es : List Equation} {side at : ℕ} {area area' : List ℕ} → form_limit < at → Ties es side at area area' (tied at side)
+too_far h = record { emitted = beyond _ _ _ _ h; onto = λ k. absurd (omega arith) }
 
 pub same_variable : {own joined side at : ℕ} {area : List ℕ} → own ≡ joined
     → Ties (equations (own ∷ []) (joined ∷ [])) side at area area (tied at side)
@@ -130,3 +133,10 @@ module _ {own joined : List ℕ} {node at : ℕ} {before : List ℕ} where
           within = omega arith;
           same = length_back s area ys st.within kept ∙ k.same;
         }
+
+    pub ends : length own ≤ i → Ties (equations own joined) node at before area (tied to side)
+    ends h =
+        let all : i ≡ length own = omega (arith, k.within) in
+        let x : take i own ≡ own = take_all i own h in
+        let y : take i joined ≡ joined = take_all i joined (omega arith) in
+        rw (x, y) at k.ties

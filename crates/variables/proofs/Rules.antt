@@ -6,13 +6,21 @@ use native.Mathlib.Omega.{arith}
 use mathlib.Core.Path.{◌≡◌, refl, sym, ◌∙◌}
 use mathlib.Core.Bool.{Bool, true, false}
 use mathlib.Core.List.{List, [], ◌∷◌, ◌++◌, append_assoc, append-nil}
+use borrow.Author.Tests.{eq-eqb, ne_eqb}
 use lib.Dec.{eqb}
 use lib.ListN.{length, take, drop, get_or, set, length-set, drop_of_length-le}
 use lib.Seq.{sets, drop-cons, take-suc-set}
 use Rattle.std.specs.Prelude.{if◌then◌else◌}
-use Rattle.model.specs.Passive.{JoinRule, joined_vars, new_widths}
+use Rattle.model.specs.Passive.{JoinRule, new_where_differs, joined_vars, new_widths}
 use Rattle.variables.specs.Variables.{vars}
 use Rattle.variables.specs.Sides.{Sized, Numbered, JoinsVars}
+
+module _ (before left right new : ℕ) where
+  pub keeps : left ≡ right → left ≡ new_where_differs before left right new
+  keeps e = rw (eq-eqb left right e)
+
+  pub differs : (left ≡ right → ⊥) → new ≡ new_where_differs before left right new
+  differs d = rw (ne_eqb left right d)
 
 -- ---- one field
 
@@ -23,6 +31,13 @@ after t new = if t then suc new else new
 bumped : (t : Bool) (new : ℕ) → after t new ≤ new + 1
 bumped true new = omega arith
 bumped false new = omega arith
+
+module _ (z new w : ℕ) (area : List ℕ) where
+  pub new-one : {area' : List ℕ} → z ≡ new → area' ≡ set area new w → Numbered z new w area area' (new + 1)
+  new-one e put = record { number = rw (eq-eqb z new e) (add-one new); written = rw (eq-eqb z new e) put }
+
+  pub no-new-one : (z ≡ new → ⊥) → Numbered z new w area area new
+  no-new-one d = record { number = rw (ne_eqb z new d); written = rw (ne_eqb z new d) }
 
 module _ (w : ℕ) (ws zs : List ℕ) (new : ℕ) where
   counted : (t : Bool) → new + length (if t then w ∷ new_widths (suc new) ws zs else new_widths new ws zs)
@@ -54,6 +69,18 @@ pub record Joining (rule : JoinRule) (ws bs ls rs : List ℕ) (new : ℕ) (befor
   pub same : length area ≡ length before
 
 module _ {rule : JoinRule} {ws bs ls rs : List ℕ} {new : ℕ} {before current : List ℕ} where
+  pub begins : Sized ws bs ls rs → length current ≡ 32 → Joining rule ws bs ls rs new before 0 current new before
+  begins z e = record {
+    joined = refl;
+    number = refl;
+    written = refl;
+    sized = z;
+    within = omega arith;
+    most = omega arith;
+    long = e;
+    same = refl;
+  }
+
   module _ {i next : ℕ} {area : List ℕ} (s : Joining rule ws bs ls rs new before i current next area) where
     pub goes_on : {z next' : ℕ} {area' : List ℕ} → i < length ws → z ≡ rule (get_or bs i 0) (get_or ls i 0) (get_or rs i 0) next
         → Numbered z next (get_or ws i 0) area area' next' → length area' ≡ length area

@@ -76,11 +76,11 @@ bits_at-truth_at-requires t c = let h = here ValueOf _ _ _ _ _ _ _ _ c.decreases
 
 pub bits_at-bits_at-requires-then-truth_at : goal.bits_at-bits_at-requires-then-truth_at
 unfolding GoodValue bits_of
-bits_at-bits_at-requires-then-truth_at t c = let h = here ValueOf _ _ _ _ _ _ _ _ c.decreases c.requires.ready c.requires.n_bound c.requires.good_value c.node-node.ensures c.in-Select.ensures refl in (arms h).0
+bits_at-bits_at-requires-then-truth_at t c = let h = here ValueOf _ _ _ _ _ _ _ _ c.decreases c.requires.ready c.requires.n_bound c.requires.good_value c.node-node.ensures c.in-Select.ensures refl in search (arms h)
 
 pub bits_at-bits_at-requires-else-truth_at : goal.bits_at-bits_at-requires-else-truth_at
 unfolding GoodValue bits_of
-bits_at-bits_at-requires-else-truth_at t c = let h = here ValueOf _ _ _ _ _ _ _ _ c.decreases c.requires.ready c.requires.n_bound c.requires.good_value c.node-node.ensures c.in-Select.ensures refl in (arms h).1
+bits_at-bits_at-requires-else-truth_at t c = let h = here ValueOf _ _ _ _ _ _ _ _ c.decreases c.requires.ready c.requires.n_bound c.requires.good_value c.node-node.ensures c.in-Select.ensures refl in search (arms h)
 
 pub bits_at-returns-in-Constant : goal.bits_at-returns-in-Constant
 unfolding GoodValue bits_of
