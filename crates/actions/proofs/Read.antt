@@ -17,7 +17,7 @@ use Rattle.model.proofs.Uses.{accepted-children}
 use Rattle.values.proofs.Trees.{node-before, tree-at}
 use Rattle.values.proofs.Others.{Skips, skips_on}
 use Rattle.actions.specs.declared.Scope.{Scope}
-use Rattle.actions.specs.Scopes.{IsStatement, tables_in, statement_of}
+use Rattle.actions.specs.Scopes.{in_body, given_in, IsStatement, tables_in, statement_of}
 
 -- node n has been read, and its kind
 pub record Read (p r : List ℕ) (scope : Scope) (n : ℕ) (node : Node) (kind : Kind) : Type 0 where
@@ -37,10 +37,10 @@ module _ {p r : List ℕ} {scope : Scope} {n : ℕ} {node : Node} {kind : Kind} 
   b = node.b
 
   abbrev pub tree_is : Kind → Tree
-  tree_is k = tree_by scope.given (tree p scope.given) n k a b node.c
+  tree_is k = tree_by (given_in scope) (tree p (given_in scope)) n k a b node.c
 
   abbrev WellFormed : Stmt → Type 0
-  WellFormed = Good (widths p) (tables_in scope.inside p)
+  WellFormed = Good (widths p) (tables_in (in_body scope) p)
 
   module _ (k : Kind) (e : kind ≡ k) where
     pub own : k ≡ kind_in kinds (pipeline_node p n).kind
@@ -49,8 +49,8 @@ module _ {p r : List ℕ} {scope : Scope} {n : ℕ} {node : Node} {kind : Kind} 
     pub children : BeforeAll n k a b node.c
     children = rw (h.words, own) (node-before p (accepted-children p r h.statement.accepted) n h.statement.below)
 
-    pub is : tree p scope.given n ≡ tree_is k
-    is = rw (h.words, own) (tree-at p (accepted-children p r h.statement.accepted) scope.given n h.statement.below)
+    pub is : tree p (given_in scope) n ≡ tree_is k
+    is = rw (h.words, own) (tree-at p (accepted-children p r h.statement.accepted) (given_in scope) n h.statement.below)
 
     pub good_by : WellFormed (as_statement (tree_is k))
     good_by = rw (← is) h.statement.good
@@ -86,10 +86,10 @@ module _ {p r : List ℕ} {scope : Scope} {n : ℕ} {node : Node} {kind : Kind} 
   choice_pair = pair Kind.Choice (λ c. (c.0, c.1)) (λ g. g)
 
   -- an apply stands outside of every body
-  pub outside : kind ≡ Kind.Apply → (scope.inside ≡ false) × (a < T p)
+  pub outside : kind ≡ Kind.Apply → (in_body scope ≡ false) × (a < T p)
   unfolding Good
-  outside e = only_outside p a scope.inside (good_by _ e)
+  outside e = only_outside p a (in_body scope) (good_by _ e)
 
   -- skip, and what is no statement
   pub is_skip : Skips kind → statement_of p scope n ≡ Stmt.skip
-  is_skip o = ap as_statement (is _ refl) ∙ skips_on scope.given (tree p scope.given) n kind a b node.c o
+  is_skip o = ap as_statement (is _ refl) ∙ skips_on (given_in scope) (tree p (given_in scope)) n kind a b node.c o

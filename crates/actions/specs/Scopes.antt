@@ -8,13 +8,22 @@ use Rattle.actions.specs.declared.Action.{Action}
 use Rattle.actions.specs.declared.Scope.{Scope}
 
 abbrev pub program_scope : Scope
-program_scope = record { inside = false; given = no_data }
+program_scope = Scope.Program
+
+abbrev pub in_body : Scope → Bool
+in_body Scope.Program = false
+in_body (Scope.Body given) = true
+
+-- the data that stand for the parameters; the program has none
+abbrev pub given_in : Scope → List ℕ
+given_in Scope.Program = no_data
+given_in (Scope.Body given) = given
 
 -- the body of the action that is called, with its data
 pub record Calls (p : List ℕ) (a : Action) (c : Call) : Type 0 where
   pub body : a.body ≡ body p c.action
-  pub inside : a.scope.inside ≡ true
-  pub given : a.scope.given ≡ c.«data»
+  pub inside : in_body a.scope ≡ true
+  pub given : given_in a.scope ≡ c.«data»
 
 -- in an action's body there is no apply
 abbrev pub tables_in : Bool → List ℕ → ℕ
@@ -22,10 +31,10 @@ tables_in true p = 0
 tables_in false p = T p
 
 abbrev pub statement_of : List ℕ → Scope → ℕ → Stmt
-statement_of p scope n = as_statement (tree p scope.given n)
+statement_of p scope n = as_statement (tree p (given_in scope) n)
 
 -- node n of an accepted pipeline is a statement that may stand there
 pub record IsStatement (p r : List ℕ) (scope : Scope) (n : ℕ) : Type 0 where
   pub accepted : Accepted p r
   pub below : n < N p
-  pub good : Good (widths p) (tables_in scope.inside p) (statement_of p scope n)
+  pub good : Good (widths p) (tables_in (in_body scope) p) (statement_of p scope n)

@@ -1,7 +1,7 @@
 // Arithmetic at a width of 1 to 32 bits, on u32. Sums and shifts go through u64, where a value of 33 bits has room.
 #![tactic(auto)]
 
-ghost use Rattle.std.specs.Prelude.{◌≡◌, ◌&&◌, ◌-◌, ◌%◌, ◌^◌, ◌<◌, ◌≤◌};
+ghost use Rattle.std.specs.Prelude.{◌≡◌, ◌-◌, ◌%◌, ◌^◌, ◌<◌, ◌≤◌};
 ghost use Rattle.std.specs.Int.Bits.{bit_and, bit_or, bit_xor};
 ghost use Rattle.bits.specs.Width.{fits, sum, difference, binary, complement, slice, join, less, under};
 
@@ -129,11 +129,4 @@ pub fn under(mask: u32, value: u32, x: u32) -> bool
     ensures { result ≡ under mask value x }
 {
     (x & mask) == value
-}
-
-// Both, with no branch: the parts are cheap, and a proof has one way instead of two.
-pub fn both(x: bool, y: bool) -> bool
-    ensures { result ≡ (x && y) }
-{
-    x & y
 }

@@ -22,7 +22,7 @@ pub extern "C" fn mz_load(
     ensures rules_after { rules.new ≡ written (load file.now (length pipeline.old) (length rules.old)) (λ b. b.rules) rules.old }
 {
     let answer = records::load(file, pipeline, rules);
-    returns::loaded(answer, first, second, third)
+    returns::answer(answer, first, second, third)
 }
 
 #[unsafe(no_mangle)]
@@ -36,7 +36,7 @@ pub extern "C" fn mz_check(
     ensures { Returns (told (λ _. []) (check pipeline.now rules.now)) result first.new second.new third.new }
 {
     let answer = checker::check(pipeline, rules);
-    returns::checked(answer, first, second, third)
+    returns::answer(answer, first, second, third)
 }
 
 // Lookup, by the place of its part.
@@ -52,8 +52,8 @@ pub extern "C" fn mz_lookup(
 ) -> u64
     ensures { Returns (looked_up (lookup pipeline.now rules.now packet.now table)) result first.new second.new third.new }
 {
-    let answer = runner::lookup_part(pipeline, rules, packet, table);
-    returns::looked_up(answer, first, second, third)
+    let part = runner::lookup_part(pipeline, rules, packet, table);
+    returns::answer(Ok(part), first, second, third)
 }
 
 #[unsafe(no_mangle)]
@@ -72,7 +72,7 @@ pub extern "C" fn mz_run(
     ensures end_after { end.new ≡ written (run pipeline.now rules.now packet.now choices.now (length end.old)) end_packet end.old }
 {
     let answer = runner::run(pipeline, rules, packet, choices, end);
-    returns::ran(answer, first, second, third)
+    returns::answer(answer, first, second, third)
 }
 
 #[unsafe(no_mangle)]
@@ -88,7 +88,7 @@ pub extern "C" fn mz_confirm(
     ensures { Returns (told yes_or_no (confirm pipeline.now rules.now packet.now choices.now)) result first.new second.new third.new }
 {
     let answer = runner::confirm(pipeline, rules, packet, choices);
-    returns::confirmed(answer, first, second, third)
+    returns::answer(answer, first, second, third)
 }
 
 #[unsafe(no_mangle)]
@@ -107,5 +107,5 @@ pub extern "C" fn mz_passify(
     ensures widths_after { widths.new ≡ written (passify pipeline.now rules.now (length nodes.old) (length widths.old)) (λ w. w.widths) widths.old }
 {
     let answer = passive::passify(pipeline, rules, nodes, widths);
-    returns::passified(answer, first, second, third)
+    returns::answer(answer, first, second, third)
 }

@@ -1,4 +1,5 @@
 -- Laws of the checker. A file cites files above it.
 pub mod Passed
+pub mod Sorts
 pub mod Judged
 pub mod Unique

@@ -1,25 +1,25 @@
 // Check: a pipeline block and its rule block are accepted, or refused with the first number of 2 to 10 that applies, and its place.
 #![tactic(auto)]
 
-ghost use Rattle.std.specs.Prelude.{◌≡◌, ◌&&◌, [], ◌+◌, ◌≤◌, ◌<◌, ltb, leb, length};
+ghost use Rattle.std.specs.Prelude.{◌≡◌, ◌&&◌, ℕ, ◌+◌, ◌≤◌, ◌<◌, ltb, leb, length, take, Some, IfOk, OnOk};
 ghost use Rattle.bits.specs.Width.{fits};
 ghost use Rattle.model.specs.Lists.{within, every};
 ghost use Rattle.model.specs.Blocks.{F, N, A as actions, T, R, call_at, parameter_count, parameter_width, key_count, key, table_of};
 ghost use Rattle.model.specs.Nodes.{is_width, is_statement};
-ghost use Rattle.model.specs.Answers.{told, checked};
-ghost use Rattle.model.specs.Refusals.{judge, counts_well, pipeline_sorts, sort_at, well_or_zero, used_or_zero, action_well, call_well, table_well, pair_well, rule_well, field_row, node_row, action_row, table_row, rule_row};
+ghost use Rattle.model.specs.declared.Refusal.{Refusal};
+ghost use Rattle.model.specs.Answers.{refused, refusal_of};
+ghost use Rattle.model.specs.Refusals.{Row, counts_well, pipeline_sorts, sort_at, well_or_zero, used_or_zero, action_well, call_well, table_well, pair_well, rule_well, field_row, node_row, action_row, table_row, root_row, rule_row};
 ghost use Rattle.model.specs.Calls.{Checks};
-ghost use Rattle.blocks.specs.Whole.{Whole};
-ghost use Rattle.nodes.specs.Codes.{Coded};
-ghost use Rattle.checker.specs.Rows.{Sized, Passes, first_in, tree_rows, sorted_rows, pipeline_rows, rule_rows};
+ghost use Rattle.checker.specs.Rows.{Passes, first_in, Judges, count_row, outcome};
 
-use bits::both;
-use model::{Checked, Refusal, Stage};
+use blocks::{Pipeline, Program, Rules};
+use model::{Refusal, Stage};
+use nodes::{Code, Setting};
 
 fn within(low: u32, high: u32, n: u32) -> bool
     ensures { result ≡ within low high n }
 {
-    both(low <= n, n <= high)
+    (low..=high).contains(&n)
 }
 
 // The limits of the counts.
@@ -27,9 +27,7 @@ fn limits_well(p: &[u32]) -> bool
     requires { 5 ≤ length p.now }
     ensures { result ≡ (within 1 32 (F p.now) && within 1 1024 (N p.now) && leb (actions p.now) 64 && leb (T p.now) 32) }
 {
-    let fields = within(1, 32, p[0]);
-    let nodes = within(1, 1024, p[1]);
-    both(both(both(fields, nodes), p[2] <= 64), p[3] <= 32)
+    within(1, 32, p[0]) & within(1, 1024, p[1]) & (p[2] <= 64) & (p[3] <= 32)
 }
 
 fn counts_well(p: &[u32], r: &[u32]) -> bool
@@ -38,366 +36,281 @@ fn counts_well(p: &[u32], r: &[u32]) -> bool
     if p.len() < blocks::HEAD {
         return false;
     }
-    let pipeline = both(limits_well(p), p.len() == blocks::length(p));
-    let rules = both(pipeline, r.len() % blocks::RULE == 0);
-    both(rules, blocks::rule_count(r) <= 256)
+    limits_well(p)
+        & (p.len() == blocks::length(p))
+        & (r.len() % blocks::RULE == 0)
+        & (r.len() / blocks::RULE <= 256)
 }
 
-fn first_width(p: &[u32]) -> usize
-    requires { Whole p.now }
-    ensures { result ≡ first_in (field_row p.now) }
+// A row's refusal at the place that was found, if there is one.
+fn refused_at<Refuse: FnOnce(usize) -> Refusal>(
+    found: Option<usize>,
+    refuse: Refuse,
+) -> Result<(), Refusal>
+    requires { (i : ℕ) → found ≡ Some i → Refuse.pre refuse i }
+    ensures { (row : Row) → found ≡ first_in row → ((i : ℕ) (x : Refusal) → Refuse.post refuse i x → refusal_of x ≡ refused row.number (row.place i))
+        → Judges row result }
 {
-    let count = blocks::field_count(p);
-    let mut i = 0;
-    while i < count {
-        if nodes::is_width(blocks::width(p, i)) {
-            i += 1;
-        } else {
-            return i;
-        }
+    match found {
+        None => Ok(()),
+        Some(i) => Err(refuse(i)),
     }
-    i
 }
 
-fn first_node(p: &[u32], codes: &mut [u8; 1024]) -> usize
-    requires sized { Sized p.now }
-    requires passes { Passes (field_row p.now) }
-    ensures value { result ≡ first_in (node_row p.now (pipeline_sorts p.now)) }
-    ensures coded { Coded codes.new (pipeline_sorts p.now) result }
-{
-    let from = blocks::node_place(p, 0);
-    let widths = blocks::widths(p);
-    nodes::first_malformed(
-        Stage::Pipeline,
-        p,
-        from,
-        blocks::node_count(p),
-        widths,
-        blocks::table_count(p),
-        codes,
-    )
+// A pipeline whose counts are within their limits: it is whole, and the local arrays hold what they count.
+#[derive(Drop)]
+struct Limited<'a> {
+    pipeline: Pipeline<'a>,
+    ghost nodes: { N pipeline ≤ 1024 },
+    ghost actions: { actions pipeline ≤ 64 },
 }
 
-// Whether node x is a statement.
-fn statement_at(p: &[u32], codes: &[u8; 1024], x: u32) -> bool
-    requires sized { Sized p.now }
-    requires coded { Coded codes.now (pipeline_sorts p.now) (N p.now) }
-    ensures { result ≡ is_statement (sort_at (pipeline_sorts p.now) x) }
+// 2
+fn check_counts<'a>(pipeline: &'a [u32], rules: &[u32]) -> Result<Limited<'a>, Refusal>
+    ensures judged { Judges (count_row pipeline.now rules.now) (outcome result) }
+    ensures block { IfOk result (λ l. l.pipeline ≡ pipeline.now) }
 {
-    nodes::is_statement(nodes::sort_in(codes, blocks::node_count(p), x))
+    if counts_well(pipeline, rules) {
+        Ok(Limited {
+            pipeline: Pipeline::new(pipeline),
+        })
+    } else {
+        Err(Refusal::Counts)
+    }
+}
+
+// 3
+fn check_fields(p: &Pipeline) -> Result<(), Refusal>
+    ensures { Judges (field_row p.now) result }
+{
+    let found = places::first_not(|i| nodes::is_width(p.width(i)), p.field_count());
+    refused_at(found, Refusal::Width)
+}
+
+// 4; the sorts of the nodes stand in `codes`.
+fn check_nodes(l: &Limited, codes: &mut [Code; 1024]) -> Result<(), Refusal>
+    requires { Passes (field_row l.now.pipeline) }
+    ensures judged { Judges (node_row l.now.pipeline (pipeline_sorts l.now.pipeline)) result }
+    ensures sorted { OnOk result (take (N l.now.pipeline) codes.new ≡ pipeline_sorts l.now.pipeline) }
+{
+    let p = &l.pipeline;
+    let setting = Setting {
+        stage: Stage::Pipeline,
+        widths: p.widths(),
+        tables: p.table_count(),
+    };
+    let nodes = &p.words()[p.node_place(0)..p.node_place(p.node_count())];
+    refused_at(setting.first_malformed(nodes, codes), Refusal::Node)
 }
 
 // A number that is used keeps its rule, and another is 0.
-fn used_or_zero(j: u32, used: u32, well: bool, number: u32) -> bool
+fn used_or_zero(j: usize, used: u32, well: bool, number: u32) -> bool
     ensures { result ≡ well_or_zero used j well number }
 {
-    if j < used { well } else { number == 0 }
+    if j < used as usize { well } else { number == 0 }
 }
 
-fn parameter_well(p: &[u32], i: usize, j: u32) -> bool
-    requires whole { Whole p.now }
+fn parameter_well(p: &Pipeline, i: usize, j: usize) -> bool
     requires i_bound { i < actions p.now }
     requires j_bound { j < 2 }
     ensures { result ≡ well_or_zero (parameter_count p.now i) j (is_width (parameter_width p.now i j)) (parameter_width p.now i j) }
 {
-    let width = blocks::parameter_width(p, i, blocks::wide(j));
-    used_or_zero(
-        j,
-        blocks::parameter_count(p, i),
-        nodes::is_width(width),
-        width,
-    )
+    let width = p.parameter_width(i, j);
+    used_or_zero(j, p.parameter_count(i), nodes::is_width(width), width)
 }
 
-fn action_well(p: &[u32], codes: &[u8; 1024], i: usize) -> bool
-    requires sized { Sized p.now }
-    requires coded { Coded codes.now (pipeline_sorts p.now) (N p.now) }
-    requires i_bound { i < actions p.now }
-    ensures { result ≡ action_well p.now (pipeline_sorts p.now) i }
-{
-    let body = statement_at(p, codes, blocks::body(p, i));
-    let few = blocks::parameter_count(p, i) <= 2;
-    both(
-        both(body, few),
-        both(parameter_well(p, i, 0), parameter_well(p, i, 1)),
-    )
+// A pipeline with the sorts of its nodes.
+#[derive(Drop)]
+struct Sorted<'a, 'c> {
+    pipeline: &'a Pipeline<'a>,
+    codes: &'c [Code],
+    ghost coded: { codes.now ≡ pipeline_sorts pipeline.now },
 }
 
-fn first_action(p: &[u32], codes: &[u8; 1024]) -> usize
-    requires sized { Sized p.now }
-    requires coded { Coded codes.now (pipeline_sorts p.now) (N p.now) }
-    ensures { result ≡ first_in (action_row p.now (pipeline_sorts p.now)) }
-{
-    let count = blocks::action_count(p);
-    let mut i = 0;
-    while i < count {
-        if action_well(p, codes, i) {
-            i += 1;
+impl<'a, 'c> Sorted<'a, 'c> {
+    // Whether node x is a statement.
+    fn statement_at(&self, x: u32) -> bool
+        ensures { result ≡ is_statement (sort_at (pipeline_sorts self.now.pipeline.now) x) }
+    {
+        nodes::sort_in(self.codes, x).is_statement()
+    }
+
+    fn action_well(&self, i: usize) -> bool
+        requires i_bound { i < actions self.now.pipeline.now }
+        ensures { result ≡ action_well self.now.pipeline.now (pipeline_sorts self.now.pipeline.now) i }
+    {
+        let p = self.pipeline;
+        self.statement_at(p.body(i))
+            & (p.parameter_count(i) <= 2)
+            & places::every(|j| parameter_well(p, i, j), 2)
+    }
+
+    // 5
+    fn check_actions(&self) -> Result<(), Refusal>
+        ensures { Judges (action_row self.now.pipeline.now (pipeline_sorts self.now.pipeline.now)) result }
+    {
+        let found = places::first_not(|i| self.action_well(i), self.pipeline.action_count());
+        refused_at(found, Refusal::Action)
+    }
+
+    // 7
+    fn check_root(&self) -> Result<(), Refusal>
+        ensures { Judges (root_row self.now.pipeline.now (pipeline_sorts self.now.pipeline.now)) result }
+    {
+        if self.statement_at(self.pipeline.root()) {
+            Ok(())
         } else {
-            return i;
+            Err(Refusal::Root)
         }
     }
-    i
 }
 
-fn datum_well(p: &[u32], action: usize, j: u32, x: u32) -> bool
-    requires whole { Whole p.now }
-    requires passes { Passes (action_row p.now (pipeline_sorts p.now)) }
-    requires action_bound { action < actions p.now }
-    requires j_bound { j < 2 }
-    ensures { result ≡ well_or_zero (parameter_count p.now action) j (fits (parameter_width p.now action j) x) x }
-{
-    let width = blocks::parameter_width(p, action, blocks::wide(j));
-    used_or_zero(
-        j,
-        blocks::parameter_count(p, action),
-        bits::fits(width, x),
-        x,
-    )
+// A pipeline whose actions are well: the data of a call can be tested.
+#[derive(Drop)]
+struct Callable<'a> {
+    pipeline: &'a Pipeline<'a>,
+    ghost actions: { Passes (action_row pipeline.now (pipeline_sorts pipeline.now)) },
 }
 
-// The three words at a place are an action and data that fit it.
-fn call_well(p: &[u32], ws: &[u32], at: usize) -> bool
-    requires whole { Whole p.now }
-    requires passes { Passes (action_row p.now (pipeline_sorts p.now)) }
-    requires at_in_bounds { at + 3 ≤ length ws.now }
-    ensures { result ≡ call_well p.now (call_at ws.now at) }
-{
-    let action = blocks::wide(blocks::word(ws, at));
-    if action < blocks::action_count(p) {
-        both(
-            datum_well(p, action, 0, blocks::word(ws, at + 1)),
-            datum_well(p, action, 1, blocks::word(ws, at + 2)),
-        )
-    } else {
-        false
+impl<'a> Callable<'a> {
+    fn datum_well(&self, action: usize, j: usize, x: u32) -> bool
+        requires action_bound { action < actions self.now.pipeline.now }
+        requires j_bound { j < 2 }
+        ensures { result ≡ well_or_zero (parameter_count self.now.pipeline.now action) j (fits (parameter_width self.now.pipeline.now action j) x) x }
+    {
+        let p = self.pipeline;
+        let width = p.parameter_width(action, j);
+        used_or_zero(j, p.parameter_count(action), bits::fits(width, x), x)
+    }
+
+    // The three words at a place are an action and data that fit it.
+    fn call_well(&self, ws: &[u32], at: usize) -> bool
+        requires at_bound { at + 3 ≤ length ws.now }
+        ensures { result ≡ call_well self.now.pipeline.now (call_at ws.now at) }
+    {
+        let action = ws[at] as usize;
+        if action < self.pipeline.action_count() {
+            places::every(|j| self.datum_well(action, j, ws[at + 1 + j]), 2)
+        } else {
+            false
+        }
+    }
+
+    fn table_well(&self, i: usize) -> bool
+        requires i_bound { i < T self.now.pipeline.now }
+        ensures { result ≡ table_well self.now.pipeline.now i }
+    {
+        let p = self.pipeline;
+        (p.key_count(i) <= 4) & keys_well(p, i) & self.call_well(p.words(), p.default_place(i))
+    }
+
+    // 6
+    fn check_tables(&self) -> Result<(), Refusal>
+        ensures { Judges (table_row self.now.pipeline.now) result }
+    {
+        let found = places::first_not(|i| self.table_well(i), self.pipeline.table_count());
+        refused_at(found, Refusal::Table)
     }
 }
 
-fn key_well(p: &[u32], i: usize, j: u32) -> bool
-    requires whole { Whole p.now }
+fn key_well(p: &Pipeline, i: usize, j: usize) -> bool
     requires i_bound { i < T p.now }
     requires j_bound { j < 4 }
     ensures { result ≡ well_or_zero (key_count p.now i) j (ltb (key p.now i j) (F p.now)) (key p.now i j) }
 {
-    let key = blocks::key(p, i, blocks::wide(j));
-    used_or_zero(
-        j,
-        blocks::key_count(p, i),
-        blocks::wide(key) < blocks::field_count(p),
-        key,
-    )
+    let key = p.key(i, j);
+    used_or_zero(j, p.key_count(i), (key as usize) < p.field_count(), key)
 }
 
-fn keys_well(p: &[u32], i: usize) -> bool
-    requires whole { Whole p.now }
+fn keys_well(p: &Pipeline, i: usize) -> bool
     requires i_bound { i < T p.now }
     ensures { result ≡ used_or_zero 4 (key_count p.now i) (λ j. ltb (key p.now i j) (F p.now)) (key p.now i) }
 {
-    both(
-        both(
-            both(key_well(p, i, 0), key_well(p, i, 1)),
-            key_well(p, i, 2),
-        ),
-        key_well(p, i, 3),
-    )
+    places::every(|j| key_well(p, i, j), 4)
 }
 
-fn table_well(p: &[u32], i: usize) -> bool
-    requires whole { Whole p.now }
-    requires passes { Passes (action_row p.now (pipeline_sorts p.now)) }
-    requires i_bound { i < T p.now }
-    ensures { result ≡ table_well p.now i }
-{
-    let few = blocks::key_count(p, i) <= 4;
-    both(
-        both(few, keys_well(p, i)),
-        call_well(p, p, blocks::default_place(p, i)),
-    )
+// A pipeline whose fields, actions and tables are well: a rule can be tested.
+#[derive(Drop)]
+struct Tabled<'a> {
+    calls: Callable<'a>,
+    ghost fields: { Passes (field_row calls.pipeline.now) },
+    ghost tables: { Passes (table_row calls.pipeline.now) },
 }
 
-fn first_table(p: &[u32]) -> usize
-    requires whole { Whole p.now }
-    requires passes { Passes (action_row p.now (pipeline_sorts p.now)) }
-    ensures { result ≡ first_in (table_row p.now) }
-{
-    let count = blocks::table_count(p);
-    let mut i = 0;
-    while i < count {
-        if table_well(p, i) {
-            i += 1;
+impl<'a> Tabled<'a> {
+    // Pair j of rule i, whose table is t.
+    fn pair_well(&self, r: &Rules, i: usize, t: usize, j: usize) -> bool
+        requires i_bound { i < R r.now }
+        requires own_table { t ≡ table_of r.now i }
+        requires t_bound { t < T self.now.calls.pipeline.now }
+        requires j_bound { j < 4 }
+        ensures { result ≡ pair_well self.now.calls.pipeline.now r.now i j }
+    {
+        let p = self.calls.pipeline;
+        let value = r.value(i, j);
+        let mask = r.mask(i, j);
+        if j < p.key_count(t) as usize {
+            let width = p.width(p.key(t, j) as usize);
+            bits::fits(width, mask) & bits::under(mask, value, value)
         } else {
-            return i;
+            (value == 0) & (mask == 0)
         }
     }
-    i
-}
 
-// Pair j of rule i, whose table is t.
-fn pair_well(p: &[u32], r: &[u32], i: usize, t: usize, j: u32) -> bool
-    requires whole { Whole p.now }
-    requires passes { Passes (field_row p.now) }
-    requires passes_2 { Passes (table_row p.now) }
-    requires i_bound { i < R r.now }
-    requires t_value { t ≡ table_of r.now i }
-    requires t_bound { t < T p.now }
-    requires j_bound { j < 4 }
-    ensures { result ≡ pair_well p.now r.now i j }
-{
-    let place = blocks::wide(j);
-    let value = blocks::value(r, i, place);
-    let mask = blocks::mask(r, i, place);
-    if j < blocks::key_count(p, t) {
-        let width = blocks::width(p, blocks::wide(blocks::key(p, t, place)));
-        both(bits::fits(width, mask), bits::under(mask, value, value))
-    } else {
-        both(value == 0, mask == 0)
-    }
-}
-
-fn pairs_well(p: &[u32], r: &[u32], i: usize, t: usize) -> bool
-    requires whole { Whole p.now }
-    requires passes { Passes (field_row p.now) }
-    requires passes_2 { Passes (table_row p.now) }
-    requires i_bound { i < R r.now }
-    requires t_value { t ≡ table_of r.now i }
-    requires t_bound { t < T p.now }
-    ensures { result ≡ every (pair_well p.now r.now i) 4 }
-{
-    both(
-        both(
-            both(pair_well(p, r, i, t, 0), pair_well(p, r, i, t, 1)),
-            pair_well(p, r, i, t, 2),
-        ),
-        pair_well(p, r, i, t, 3),
-    )
-}
-
-fn rule_well(p: &[u32], r: &[u32], i: usize) -> bool
-    requires whole { Whole p.now }
-    requires passes { Passes (field_row p.now) }
-    requires passes_2 { Passes (action_row p.now (pipeline_sorts p.now)) }
-    requires passes_3 { Passes (table_row p.now) }
-    requires i_bound { i < R r.now }
-    ensures { result ≡ rule_well p.now r.now i }
-{
-    let t = blocks::wide(blocks::table_of(r, i));
-    if t < blocks::table_count(p) {
-        both(
-            pairs_well(p, r, i, t),
-            call_well(p, r, blocks::call_place(r, i)),
-        )
-    } else {
-        false
-    }
-}
-
-fn first_rule(p: &[u32], r: &[u32]) -> usize
-    requires whole { Whole p.now }
-    requires passes { Passes (field_row p.now) }
-    requires passes_2 { Passes (action_row p.now (pipeline_sorts p.now)) }
-    requires passes_3 { Passes (table_row p.now) }
-    ensures { result ≡ first_in (rule_row p.now r.now) }
-{
-    let count = blocks::rule_count(r);
-    let mut i = 0;
-    while i < count {
-        if rule_well(p, r, i) {
-            i += 1;
+    fn rule_well(&self, r: &Rules, i: usize) -> bool
+        requires i_bound { i < R r.now }
+        ensures { result ≡ rule_well self.now.calls.pipeline.now r.now i }
+    {
+        let t = r.table_of(i) as usize;
+        if t < self.calls.pipeline.table_count() {
+            let pairs = places::every(|j| self.pair_well(r, i, t, j), 4);
+            pairs & self.calls.call_well(r.words(), r.call_place(i))
         } else {
-            return i;
+            false
         }
     }
-    i
+
+    // 10
+    fn check_rules(&self, r: &Rules) -> Result<(), Refusal>
+        ensures { Judges (rule_row self.now.calls.pipeline.now r.now) result }
+    {
+        let found = places::first_not(|i| self.rule_well(r, i), r.count());
+        refused_at(found, Refusal::Rule)
+    }
 }
 
-// 7 to 9: the root is a statement, each node has one place, and parameters and applies have theirs.
-#[tactic(auto, using(crate::proofs::Judged::judged, crate::proofs::Judged::passed), unfolding(crate::specs::Rows::tree_rows))]
-fn check_trees(p: &[u32], codes: &[u8; 1024]) -> Checked
-    requires sized { Sized p.now }
-    requires coded { Coded codes.now (pipeline_sorts p.now) (N p.now) }
-    requires passes { Passes (node_row p.now (pipeline_sorts p.now)) }
-    requires passes_2 { Passes (action_row p.now (pipeline_sorts p.now)) }
-    ensures { checked result ≡ told (λ _. []) (judge (tree_rows p.now)) }
+// The two blocks, or the refusal of the first row that applies.
+pub fn accept<'a>(pipeline: &'a [u32], rules: &'a [u32]) -> Result<Program<'a>, Refusal>
+    ensures answers { Checks pipeline.now rules.now (outcome result) }
+    ensures blocks { IfOk result (λ a. (a.pipeline ≡ pipeline.now) × (a.rules ≡ rules.now)) }
 {
-    if !statement_at(p, codes, blocks::root(p)) {
-        return Checked::Refused(Refusal::Root);
-    }
-    let i = uses::first_miscounted(p);
-    if i < blocks::node_count(p) {
-        return Checked::Refused(Refusal::Use(i));
-    }
-    let i = uses::first_misplaced(p);
-    if i < blocks::node_count(p) {
-        return Checked::Refused(Refusal::Misplaced(i));
-    }
-    Checked::Accepted
+    let limited = check_counts(pipeline, rules)?;
+    let p = &limited.pipeline;
+    let r = Rules::new(rules);
+    check_fields(p)?;
+    let mut codes = [Code::malformed(); 1024];
+    check_nodes(&limited, &mut codes)?;
+    let sorted = Sorted {
+        pipeline: p,
+        codes: &codes[..p.node_count()],
+    };
+    sorted.check_actions()?;
+    let calls = Callable { pipeline: p };
+    calls.check_tables()?;
+    sorted.check_root()?;
+    refused_at(uses::first_miscounted(p), Refusal::Use)?;
+    refused_at(uses::first_misplaced(p), Refusal::Misplaced)?;
+    let tables = Tabled { calls };
+    tables.check_rules(&r)?;
+    Ok(Program {
+        pipeline: limited.pipeline,
+        rules: r,
+    })
 }
 
-// 5 to 9, where the sorts of the nodes are known.
-#[tactic(auto, using(crate::proofs::Judged::judged, crate::proofs::Judged::passed), unfolding(crate::specs::Rows::sorted_rows))]
-fn check_sorted(p: &[u32], codes: &[u8; 1024]) -> Checked
-    requires sized { Sized p.now }
-    requires coded { Coded codes.now (pipeline_sorts p.now) (N p.now) }
-    requires passes { Passes (node_row p.now (pipeline_sorts p.now)) }
-    ensures { checked result ≡ told (λ _. []) (judge (sorted_rows p.now)) }
-{
-    let i = first_action(p, codes);
-    if i < blocks::action_count(p) {
-        return Checked::Refused(Refusal::Action(i));
-    }
-    let i = first_table(p);
-    if i < blocks::table_count(p) {
-        return Checked::Refused(Refusal::Table(i));
-    }
-    check_trees(p, codes)
-}
-
-// 3 to 9: what the pipeline block says by itself.
-#[tactic(auto, using(crate::proofs::Judged::judged, crate::proofs::Judged::passed), unfolding(crate::specs::Rows::pipeline_rows))]
-fn check_pipeline(p: &[u32]) -> Checked
-    requires { Sized p.now }
-    ensures { checked result ≡ told (λ _. []) (judge (pipeline_rows p.now)) }
-{
-    let i = first_width(p);
-    if i < blocks::field_count(p) {
-        return Checked::Refused(Refusal::Width(i));
-    }
-    let mut codes = [0u8; 1024];
-    let i = first_node(p, &mut codes);
-    if i < blocks::node_count(p) {
-        return Checked::Refused(Refusal::Node(i));
-    }
-    check_sorted(p, &codes)
-}
-
-// 10, where the pipeline is accepted.
-#[tactic(auto, using(crate::proofs::Judged::judged), unfolding(crate::specs::Rows::rule_rows))]
-fn check_rules(p: &[u32], r: &[u32]) -> Checked
-    requires whole { Whole p.now }
-    requires passes { Passes (field_row p.now) }
-    requires passes_2 { Passes (action_row p.now (pipeline_sorts p.now)) }
-    requires passes_3 { Passes (table_row p.now) }
-    ensures { checked result ≡ told (λ _. []) (judge (rule_rows p.now r.now)) }
-{
-    let i = first_rule(p, r);
-    if i < blocks::rule_count(r) {
-        Checked::Refused(Refusal::Rule(i))
-    } else {
-        Checked::Accepted
-    }
-}
-
-#[tactic(auto, using(crate::proofs::Judged::sized, crate::proofs::Judged::whole))]
-pub fn check(pipeline: &[u32], rules: &[u32]) -> Checked
+pub fn check(pipeline: &[u32], rules: &[u32]) -> Result<(), Refusal>
     ensures { Checks pipeline.now rules.now result }
 {
-    if counts_well(pipeline, rules) {
-        match check_pipeline(pipeline) {
-            Checked::Accepted => check_rules(pipeline, rules),
-            Checked::Refused(refusal) => Checked::Refused(refusal),
-        }
-    } else {
-        Checked::Refused(Refusal::Counts)
-    }
+    accept(pipeline, rules)?;
+    Ok(())
 }

@@ -1,7 +1,7 @@
 -- Laws of writing statements: one that keeps the variables, one that renews one of them, a sequence, a choice. Assumes nothing.
 use Prim.Native.Nat.{ℕ, ◌+◌, ◌-◌, ◌≤◌, ◌<◌}
 use native.Mathlib.Omega.{arith}
-use mathlib.Core.Path.{◌≡◌, refl, ap, ◌∙◌}
+use mathlib.Core.Path.{◌≡◌, ap, ◌∙◌}
 use mathlib.Core.Bool.{Bool}
 use mathlib.Core.List.{List, [], ◌∷◌}
 use lib.ListN.{length, take, get_or}
@@ -14,16 +14,27 @@ use Rattle.model.specs.declared.Comparison.{Comparison}
 use Rattle.pieces.specs.Pieces.{Behind, Start, emit_tree}
 use Rattle.pieces.specs.Sound.{IsValue, IsTest}
 use Rattle.guards.specs.Guards.{guard_test}
-use Rattle.pieces.proofs.Pieces.{lent, back, fits_so, lent_behind, pair_behind, one-behind, two-behind, beyond_behind, grows, behind-some}
+use Rattle.pieces.proofs.Pieces.{lent, back, fits_so, lent_behind, pair_behind, one-behind, two-behind, beyond_behind, behind-some}
 use Rattle.variables.specs.declared.Vars.{Vars as Held}
-use Rattle.variables.specs.declared.Made.{Made}
+use Rattle.variables.specs.declared.place.Made.{Made}
 use Rattle.variables.specs.Variables.{Holds, vars, few}
 use Rattle.variables.specs.Joined.{join_nodes, after_join, Joins}
 use Rattle.variables.specs.Sides.{choice_nodes}
-use Rattle.forms.specs.Writes.{Writes, made_of, Tests, JoinedBehind, guard_form, sequence_form, choice_form}
+use Rattle.forms.specs.Writes.{Writes, Tests, JoinedBehind, guard_form, sequence_form, choice_form}
+
+-- ---- how many variables there are
 
 pub few-variables : {at next : ℕ} → few at next → at ≤ form_limit → next ≤ 10000000
 few-variables f h = omega arith
+
+-- behind more nodes, and behind one more of them with one more variable
+pub few_kept : {at to next : ℕ} → (at ≤ form_limit → few at next) → at ≤ to → to ≤ form_limit → few to next
+few_kept f on k = let l = f (omega arith) in omega arith
+
+pub few_renewed : {at to next new : ℕ} → (at ≤ form_limit → few at next) → (to ≤ form_limit → at < to) → new ≡ next + 1 → to ≤ form_limit → few to new
+few_renewed f more e k = let l = more k in let n = f (omega arith) in omega arith
+
+-- ---- what a statement leaves
 
 -- the right side of a choice starts from the variables before it, numbering on
 holds-beside : {p lent widths₀ widths₁ : List ℕ} {v w : Held} {s l : Vars} → Holds p lent widths₀ v s → Holds p lent widths₁ w l
@@ -31,13 +42,12 @@ holds-beside : {p lent widths₀ widths₁ : List ℕ} {v w : Held} {s l : Vars}
 holds-beside h k = record { current = h.current; new = k.new; widths = k.widths; same = k.same }
 
 -- nothing is written above the limit
-pub beyond_writes : {p : List ℕ} {at : ℕ} {v : Held} {nodes : List ℕ} (make : Vars → Form) (area : List ℕ) → form_limit < at
-    → Writes p make at v nodes nodes area area (made_of at v)
-beyond_writes {p} {at} {v} {nodes} make area h = record {
+pub beyond_writes : {p : List ℕ} {from : Made} {nodes : List ℕ} (make : Vars → Form) (area : List ℕ) → form_limit < from.at
+    → Writes p make from nodes nodes area area from
+beyond_writes {p} {from} {nodes} make area h = record {
   onward = omega arith;
   some = omega arith;
-  bound = λ k. absurd (omega arith);
-  emitted = λ lent s g. beyond_behind (emit (make s).body) 0 at nodes h;
+  emitted = λ lent s g. beyond_behind (emit (make s).body) 0 from.at nodes h;
   holds = λ lent s g k. absurd (omega arith);
 }
 
@@ -47,39 +57,29 @@ Renewed p v z field area area' =
     (z.next ≡ v.next + 1)
     × ((lent : List ℕ) (s : Vars) → Holds p lent area v s → Holds p lent area' z (passive.fresh s field (get_or (widths p) field 0)))
 
-module _ {p : List ℕ} {at : ℕ} {v : Held} {nodes nodes' : List ℕ} {to : ℕ} (f : at ≤ form_limit → few at v.next) (on : at ≤ to) (some : 1 ≤ to) where
+module _ {p : List ℕ} {from m : Made} {nodes nodes' : List ℕ} (on : from.at ≤ m.at) (some : 1 ≤ m.at) where
   -- a statement that keeps the variables
-  pub keeps : {m : Made} (make : Vars → Passive) (area : List ℕ) → m ≡ made_of to v
-      → ((lent : List ℕ) (s : Vars) → Holds p lent area v s → Behind (emit (make s)) 0 at nodes nodes' to)
-      → Writes p (λ s. form (make s) s) at v nodes nodes' area area m
-  keeps make area e b = rw e (record { onward = on; some = some; bound = λ k. let l = f (omega arith) in omega arith; emitted = b; holds = λ lent s h k. h })
+  pub keeps : (make : Vars → Passive) (area : List ℕ) → m.vars ≡ from.vars
+      → ((lent : List ℕ) (s : Vars) → Holds p lent area from.vars s → Behind (emit (make s)) 0 from.at nodes nodes' m.at)
+      → Writes p (λ s. form (make s) s) from nodes nodes' area area m
+  keeps make area e b = record { onward = on; some = some; emitted = b; holds = λ lent s h k. rw e h }
 
   -- a statement that renews the variable of a field
-  pub renews : {m : Made} {z : Held} (field : ℕ) (make : Vars → Passive) (area area' : List ℕ) → m ≡ made_of to z → (to ≤ form_limit → at < to)
-      → Renewed p v z field area area'
-      → ((lent : List ℕ) (s : Vars) → Holds p lent area v s → Behind (emit (make s)) 0 at nodes nodes' to)
-      → Writes p (λ s. form (make s) (passive.fresh s field (get_or (widths p) field 0))) at v nodes nodes' area area' m
-  renews field make area area' e more g b =
-      rw e
-      (record {
-        onward = on;
-        some = some;
-        bound = λ k. let l = more k in let n = f (omega arith) in omega (arith, g.0);
-        emitted = b;
-        holds = λ lent s h k. g.1 lent s h;
-      })
+  pub renews : (field : ℕ) (make : Vars → Passive) (area area' : List ℕ) → Renewed p from.vars m.vars field area area'
+      → ((lent : List ℕ) (s : Vars) → Holds p lent area from.vars s → Behind (emit (make s)) 0 from.at nodes nodes' m.at)
+      → Writes p (λ s. form (make s) (passive.fresh s field (get_or (widths p) field 0))) from nodes nodes' area area' m
+  renews field make area area' g b = record { onward = on; some = some; emitted = b; holds = λ lent s h k. g.1 lent s h }
 
 -- left, right, 37
-module _ {p : List ℕ} {f g : Vars → Form} {at : ℕ} {v : Held} {nodes₀ nodes₁ nodes₂ nodes₃ widths₀ widths₁ widths₂ : List ℕ} {l r m : Made} where
-  pub sequence_writes : Writes p f at v nodes₀ nodes₁ widths₀ widths₁ l → length nodes₁ ≡ length nodes₀
-      → Writes p g l.at l.vars nodes₁ nodes₂ widths₁ widths₂ r → length nodes₂ ≡ length nodes₁
+module _ {p : List ℕ} {f g : Vars → Form} {from l r m : Made} {nodes₀ nodes₁ nodes₂ nodes₃ widths₀ widths₁ widths₂ : List ℕ} where
+  pub sequence_writes : Writes p f from nodes₀ nodes₁ widths₀ widths₁ l → length nodes₁ ≡ length nodes₀
+      → Writes p g l nodes₁ nodes₂ widths₁ widths₂ r → length nodes₂ ≡ length nodes₁
       → Behind (λ _. node 37 (l.at - 1) (r.at - 1) 0 ∷ []) 0 r.at nodes₂ nodes₃ m.at → m.vars ≡ r.vars
-      → Writes p (sequence_form f g) at v nodes₀ nodes₃ widths₀ widths₂ m
+      → Writes p (sequence_form f g) from nodes₀ nodes₃ widths₀ widths₂ m
   unfolding emit
   sequence_writes a s₁ b s₂ c e = record {
     onward = omega (arith, a.onward, b.onward, c.onward);
     some = omega (arith, b.some, c.onward);
-    bound = λ h. let k = b.bound (omega (arith, c.onward)) in rw e (omega (arith, c.onward));
     emitted = λ lent s h.
         pair_behind (λ x y. node 37 (x - 1) (y - 1) 0 ∷ []) (a.emitted lent s h) s₁ (λ k. b.emitted lent (f s).after (a.holds lent s h k)) b.onward s₂ (λ _. c)
         c.onward;
@@ -87,46 +87,49 @@ module _ {p : List ℕ} {f g : Vars → Form} {at : ℕ} {v : Held} {nodes₀ no
         rw e (b.holds lent (f s).after (a.holds lent s h (omega (arith, b.onward, c.onward))) (omega (arith, c.onward)));
   }
 
--- both sides, joined
-module _ {p : List ℕ} {f g : Vars → Form} {at : ℕ} {v : Held} {nodes₀ nodes₁ nodes₂ nodes₃ widths₀ widths₁ widths₂ widths₃ : List ℕ} {l r m : Made} where
-  pub choice_writes : (o : Origin) → Writes p f at v nodes₀ nodes₁ widths₀ widths₁ l → length nodes₁ ≡ length nodes₀
-      → Writes p g l.at (vars v.current l.vars.next) nodes₁ nodes₂ widths₁ widths₂ r → length nodes₂ ≡ length nodes₁ → r.at ≤ m.at
-      → (m.at ≤ form_limit → few m.at m.vars.next) → JoinedBehind p v l r nodes₂ nodes₃ widths₂ widths₃ m
-      → Writes p (choice_form p o f g) at v nodes₀ nodes₃ widths₀ widths₃ m
+-- both sides, joined: the right one begins at `w`
+module _ {p : List ℕ} {f g : Vars → Form} {from l w r m : Made} {nodes₀ nodes₁ nodes₂ nodes₃ widths₀ widths₁ widths₂ widths₃ : List ℕ} where
+  pub choice_writes : (o : Origin) → Writes p f from nodes₀ nodes₁ widths₀ widths₁ l → length nodes₁ ≡ length nodes₀
+      → w.at ≡ l.at → w.vars ≡ vars from.vars.current l.vars.next → Writes p g w nodes₁ nodes₂ widths₁ widths₂ r → length nodes₂ ≡ length nodes₁ → r.at ≤ m.at
+      → JoinedBehind p from.vars l r nodes₂ nodes₃ widths₂ widths₃ m
+      → Writes p (choice_form p o f g) from nodes₀ nodes₃ widths₀ widths₃ m
   unfolding emit join join_nodes choice_nodes
-  choice_writes o a s₁ b s₂ on few j = record {
-    onward = omega (arith, a.onward, b.onward);
+  choice_writes o a s₁ ew ev b s₂ on j = record {
+    onward = omega (arith, a.onward, ew, b.onward);
     some = omega (arith, b.some);
-    bound = few;
     emitted = λ lent s h.
         pair_behind (join_nodes s (f s).after (g (beside s (f s).after)).after) (a.emitted lent s h) s₁
-        (λ k. b.emitted lent (beside s (f s).after) (holds-beside h (a.holds lent s h k))) b.onward s₂ (λ k. (joined lent s h k).0) on;
+        (λ k. rw ew at (b.emitted lent (beside s (f s).after) (begins lent s h k))) (omega (arith, ew, b.onward)) s₂ (λ k. (joined lent s h k).0) on;
     holds = λ lent s h k. (joined lent s h (omega arith)).1 k;
   }
     where
-      joined : (lent : List ℕ) (s : Vars) → Holds p lent widths₀ v s → r.at ≤ form_limit
+      begins : (lent : List ℕ) (s : Vars) → Holds p lent widths₀ from.vars s → l.at ≤ form_limit → Holds p lent widths₁ w.vars (beside s (f s).after)
+      begins lent s h k = rw ev (holds-beside h (a.holds lent s h k))
+
+      joined : (lent : List ℕ) (s : Vars) → Holds p lent widths₀ from.vars s → r.at ≤ form_limit
           → let y = (g (beside s (f s).after)).after in
           Behind (λ _. join_nodes s (f s).after y l.at r.at) 0 r.at nodes₂ nodes₃ m.at
           × (m.at ≤ form_limit → Holds p lent widths₃ m.vars (after_join p s (f s).after y))
       joined lent s h k =
-          let left = a.holds lent s h (omega (arith, b.onward)) in
+          let low : l.at ≤ form_limit = omega (arith, ew, b.onward) in
+          let left = a.holds lent s h low in
           j lent s (f s).after (g (beside s (f s).after)).after h.current left.current
-          (b.holds lent (beside s (f s).after) (holds-beside h left) k)
+          (b.holds lent (beside s (f s).after) (begins lent s h low) k)
 
 -- ---- the statements without statements
 
-module _ {p : List ℕ} {at : ℕ} {v : Held} {nodes₀ nodes₁ : List ℕ} {to : ℕ} (f : at ≤ form_limit → few at v.next) where
-  pub skip_writes : {m : Made} → Behind (λ _. node 32 0 0 0 ∷ []) 0 at nodes₀ nodes₁ to → m ≡ made_of to v → (area : List ℕ)
-      → Writes p (λ s. form Passive.skip s) at v nodes₀ nodes₁ area area m
+module _ {p : List ℕ} {from m : Made} {nodes₀ nodes₁ : List ℕ} where
+  pub skip_writes : Behind (λ _. node 32 0 0 0 ∷ []) 0 from.at nodes₀ nodes₁ m.at → m.vars ≡ from.vars → (area : List ℕ)
+      → Writes p (λ s. form Passive.skip s) from nodes₀ nodes₁ area area m
   unfolding emit
-  skip_writes b e area = keeps f b.onward (behind-some (λ _. omega arith) b) (λ _. Passive.skip) area e (λ lent s h. b)
+  skip_writes b e area = keeps b.onward (behind-some (λ _. omega arith) b) (λ _. Passive.skip) area e (λ lent s h. b)
 
-  pub havoc_writes : {m : Made} {z : Held} (field : ℕ) (area area' : List ℕ) → Behind (λ _. node 32 0 0 0 ∷ []) 0 at nodes₀ nodes₁ to → m ≡ made_of to z
-      → Renewed p v z field area area'
-      → Writes p (passive.passify (widths p) new_where_differs no_apply (Stmt.havoc field)) at v nodes₀ nodes₁ area area' m
+  pub havoc_writes : (field : ℕ) (area area' : List ℕ) → Behind (λ _. node 32 0 0 0 ∷ []) 0 from.at nodes₀ nodes₁ m.at
+      → Renewed p from.vars m.vars field area area'
+      → Writes p (passive.passify (widths p) new_where_differs no_apply (Stmt.havoc field)) from nodes₀ nodes₁ area area' m
   unfolding emit passive.passify
-  havoc_writes field area area' b e g =
-      renews f b.onward (behind-some (λ _. omega arith) b) field (λ s. Passive.havoced (next s)) area area' e (grows (λ _. omega arith) b) g (λ lent s h. b)
+  havoc_writes field area area' b g =
+      renews b.onward (behind-some (λ _. omega arith) b) field (λ s. Passive.havoced (next s)) area area' g (λ lent s h. b)
 
 -- a tree over the current variables
 module _ {p lent area : List ℕ} {v : Held} {s : Vars} (h : Holds p lent area v s) where
@@ -139,38 +142,36 @@ module _ {p lent area : List ℕ} {v : Held} {s : Vars} (h : Holds p lent area v
   value_piece : (x : Tree) → IsValue x → emit_tree (take (F p) v.current) x ≡ emit_value (renamed s.current (as_value x))
   value_piece x = piece x (Tree.value (as_value x))
 
-module _ {p : List ℕ} {at : ℕ} {v : Held} {nodes₀ nodes₁ : List ℕ} {x : Tree} {l : ℕ} (f : at ≤ form_limit → few at v.next)
-    (first : Behind (emit_tree (take (F p) v.current) x) 0 at nodes₀ nodes₁ l) (s₁ : length nodes₁ ≡ length nodes₀) where
-  pub test_writes : {m : Made} {kind to : ℕ} {nodes₂ : List ℕ} → IsTest x → Behind (λ _. node kind (l - 1) 0 0 ∷ []) 0 l nodes₁ nodes₂ to → m ≡ made_of to v → (area : List ℕ)
-      → Tests p kind (as_test x) at v nodes₀ nodes₂ area m
-  test_writes {m} {kind} t last e area tested is =
-      keeps f (omega (arith, first.onward, last.onward)) (behind-some (λ _. omega arith) last) (λ s. tested (renamed_test s.current (as_test x))) area e
+module _ {p : List ℕ} {from m : Made} {nodes₀ nodes₁ : List ℕ} {x : Tree} {l : ℕ}
+    (first : Behind (emit_tree (take (F p) from.vars.current) x) 0 from.at nodes₀ nodes₁ l) (s₁ : length nodes₁ ≡ length nodes₀) where
+  pub test_writes : {kind : ℕ} {nodes₂ : List ℕ} → IsTest x → Behind (λ _. node kind (l - 1) 0 0 ∷ []) 0 l nodes₁ nodes₂ m.at → m.vars ≡ from.vars
+      → (area : List ℕ) → Tests p kind (as_test x) from nodes₀ nodes₂ area m
+  test_writes {kind} t last e area tested is =
+      keeps (omega (arith, first.onward, last.onward)) (behind-some (λ _. omega arith) last) (λ s. tested (renamed_test s.current (as_test x))) area e
       (λ lent s h. rw (is (renamed_test s.current (as_test x)), ← test_piece h x t) (one-behind (λ i. node kind i 0 0) first s₁ last))
 
-  pub assign_writes : {m : Made} {z : Held} {nodes₂ nodes₃ nodes₄ : List ℕ} {y q to : ℕ} (field : ℕ) (area area' : List ℕ) → IsValue x
-      → Behind (λ _. node 2 v.next 0 0 ∷ []) 0 l nodes₁ nodes₂ y → length nodes₂ ≡ length nodes₁
+  pub assign_writes : {nodes₂ nodes₃ nodes₄ : List ℕ} {y q : ℕ} (field : ℕ) (area area' : List ℕ) → IsValue x
+      → Behind (λ _. node 2 from.vars.next 0 0 ∷ []) 0 l nodes₁ nodes₂ y → length nodes₂ ≡ length nodes₁
       → Behind (λ _. node 17 (l - 1) (y - 1) 0 ∷ []) 0 y nodes₂ nodes₃ q → length nodes₃ ≡ length nodes₂
-      → Behind (λ _. node 35 (q - 1) 0 0 ∷ []) 0 q nodes₃ nodes₄ to → m ≡ made_of to z
-      → Renewed p v z field area area'
-      → Writes p (passive.passify (widths p) new_where_differs no_apply (Stmt.assign field (as_value x))) at v nodes₀ nodes₄ area area' m
+      → Behind (λ _. node 35 (q - 1) 0 0 ∷ []) 0 q nodes₃ nodes₄ m.at
+      → Renewed p from.vars m.vars field area area'
+      → Writes p (passive.passify (widths p) new_where_differs no_apply (Stmt.assign field (as_value x))) from nodes₀ nodes₄ area area' m
   unfolding emit emit_test passive.passify
-  assign_writes field area area' t second s₂ third s₃ last e g =
-      renews f (omega (arith, first.onward, second.onward, third.onward, last.onward)) (behind-some (λ _. omega arith) last) field
-      (λ s. Passive.assume (Test.compare Comparison.Equal (renamed s.current (as_value x)) (Val.field (next s)))) area area' e
-      (λ h. let k = grows (λ _. omega arith) last h in omega (arith, first.onward, second.onward, third.onward)) g
+  assign_writes field area area' t second s₂ third s₃ last g =
+      renews (omega (arith, first.onward, second.onward, third.onward, last.onward)) (behind-some (λ _. omega arith) last) field
+      (λ s. Passive.assume (Test.compare Comparison.Equal (renamed s.current (as_value x)) (Val.field (next s)))) area area' g
       (λ lent s h.
       rw (← value_piece h x t, ← h.new)
       (one-behind (λ i. node 35 i 0 0) (two-behind (λ i j. node 17 i j 0) first s₁ second s₂ third) (s₃ ∙ s₂ ∙ s₁) last))
 
 -- ---- guards and joins
 
-pub guard_writes : (p r : List ℕ) (i : ℕ) (negated : Bool) {at : ℕ} {v : Held} {nodes₀ nodes₁ ws : List ℕ} {to : ℕ} → (at ≤ form_limit → few at v.next)
-    → ws ≡ take (F p) v.current
-    → Behind (emit (Passive.assume (renamed_test ws (guard_test p r i negated)))) 0 at nodes₀ nodes₁ to × (1 ≤ to) → (area : List ℕ)
-    → Writes p (guard_form p r i negated) at v nodes₀ nodes₁ area area (made_of to v)
-guard_writes p r i negated f e b area =
-    keeps f b.0.onward b.1 (λ s. Passive.assume (renamed_test s.current (guard_test p r i negated))) area refl
-    (λ lent s h. rw (← h.current, ← e) b.0)
+pub guard_writes : (p r : List ℕ) (i : ℕ) (negated : Bool) {from m : Made} {nodes₀ nodes₁ ws : List ℕ} → ws ≡ take (F p) from.vars.current
+    → Behind (emit (Passive.assume (renamed_test ws (guard_test p r i negated)))) 0 from.at nodes₀ nodes₁ m.at → 1 ≤ m.at → m.vars ≡ from.vars
+    → (area : List ℕ) → Writes p (guard_form p r i negated) from nodes₀ nodes₁ area area m
+guard_writes p r i negated e b some k area =
+    keeps b.onward some (λ s. Passive.assume (renamed_test s.current (guard_test p r i negated))) area k
+    (λ lent s h. rw (← h.current, ← e) b)
 
 pub join-behind : (p : List ℕ) (v : Held) (l r : Made) {m : Made} {nodes ys area area' : List ℕ} {s : ℕ} → Start 0 r.at (length nodes) s
     → ((given : List ℕ) (x y z : Vars) → take (F p) v.current ≡ x.current → take (F p) l.vars.current ≡ y.current → Holds p given area r.vars z

@@ -12,27 +12,21 @@ use Rattle.model.specs.Emit.{emit_test, emit}
 use Rattle.model.specs.Demands.{Accepted}
 use Rattle.model.specs.declared.Node.{Node}
 use Rattle.model.proofs.Accepted.{rows, table_fits, rule_fits}
-use Rattle.blocks.specs.Whole.{Whole}
-use Rattle.blocks.proofs.Accepted.{whole}
 use Rattle.pieces.specs.Pieces.{Behind}
 use Rattle.pieces.proofs.Pieces.{one-behind, two-behind}
 use Rattle.guards.specs.Guards.{masked, OverConstant, guard_test, KeyBehind}
 
 -- what Check accepts has the keys
-module _ (p r : List ℕ) (accepted : Accepted p r) where
-  module _ {i t : ℕ} (h : i < R r) (e : t ≡ table_of r i) where
-    pub table_there : t < T p
-    table_there = rw e (rule_fits p r (rows p r accepted) i h).0
+module _ (p r : List ℕ) (accepted : Accepted p r) (i : ℕ) (h : i < R r) where
+  pub table_there : table_of r i < T p
+  table_there = (rule_fits p r (rows p r accepted) i h).0
 
-    module _ {j : ℕ} (k : j < key_count p t) where
-      pub pair_asks : (i < R r) × (j < 4)
-      pair_asks = let l = (table_fits p r (rows p r accepted) t table_there).0 in (h, omega arith)
+  module _ (j : ℕ) (k : j < key_count p (table_of r i)) where
+    pub key_low : j < 4
+    key_low = let l = (table_fits p r (rows p r accepted) (table_of r i) table_there).0 in omega arith
 
-      pub key_asks : Whole p × ((t < T p) × (j < 4))
-      key_asks = (whole p r accepted, (table_there, pair_asks.1))
-
-      pub width_asks : {field wide : ℕ} → field ≡ key p t j → wide ≡ field → Whole p × (wide < F p)
-      width_asks d q = (whole p r accepted, rw (q, d) ((table_fits p r (rows p r accepted) t table_there).1 j k))
+    pub field_there : key p (table_of r i) j < F p
+    field_there = (table_fits p r (rows p r accepted) (table_of r i) table_there).1 j k
 
 -- one node
 abbrev Own : ℕ → List ℕ → List ℕ → ℕ → ℕ → ℕ → ℕ → ℕ → Type 0
@@ -49,15 +43,15 @@ unfolding emit_test
 masks o s₁ q s₂ z = (z.extends (s₂ ∙ s₁) (q.extends s₁ o), z.some)
 
 module _ (p r current : List ℕ) (i j : ℕ) where
-  pub key-nodes : {at own to t field wide x w m v : ℕ} {n₀ n₁ n₂ : List ℕ} → t ≡ table_of r i → field ≡ key p t j → wide ≡ field → w ≡ width p wide
+  pub key-nodes : {at own to t field x w m v : ℕ} {n₀ n₁ n₂ : List ℕ} → t ≡ table_of r i → field ≡ key p t j → w ≡ width p field
       → m ≡ mask r i j → v ≡ value r i j → x ≡ get_or current field 0 → Behind (emit_test (masked x w m v)) 0 at n₀ n₁ own → length n₁ ≡ length n₀
       → Own own n₁ n₂ to 20 (at - 1) (own - 1) 0 → 1 ≤ to → KeyBehind p r current i j at n₀ n₂ to
   unfolding key_tests emit_test renamed_test
-  key-nodes {at = at} {own = own} {n₀ = n₀} {n₁ = n₁} et ef ew ey em ev ex b s o some =
+  key-nodes {at = at} {own = own} {n₀ = n₀} {n₁ = n₁} et ef ey em ev ex b s o some =
       record {
         some = some;
         extends = λ same so_far.
-            let test : Behind (emit_test (renamed_test current (key_test p r i j))) 0 at n₀ n₁ own = rw (← et, ← em, ← ev, ← ef) (rw (ex, ey, ew) at b) in
+            let test : Behind (emit_test (renamed_test current (key_test p r i j))) 0 at n₀ n₁ own = rw (← et, ← em, ← ev, ← ef) (rw (ex, ey) at b) in
             rw (add-one j) (two-behind (λ x y. node 20 x y 0) so_far same test s o);
       }
 
@@ -99,9 +93,9 @@ module _ (p r current : List ℕ) (i at count : ℕ) (nodes₀ : List ℕ) (to�
         written = λ same b. k.extends (m.same ∙ same) (m.written same b);
       }
 
-  pub ends : {before nodes : List ℕ} {to j t key : ℕ} {n : Node} → Matched p r current i at count nodes₀ to₀ nodes to j → count ≤ j → t ≡ table_of r i
-      → key ≡ key_count p t → count ≡ key → n ≡ node 16 1 0 0 → Behind (λ _. n ∷ []) 0 at before nodes₀ to₀ → length nodes₀ ≡ length before
+  pub ends : {before nodes : List ℕ} {to j t : ℕ} {n : Node} → Matched p r current i at count nodes₀ to₀ nodes to j → count ≤ j → t ≡ table_of r i
+      → count ≡ key_count p t → n ≡ node 16 1 0 0 → Behind (λ _. n ∷ []) 0 at before nodes₀ to₀ → length nodes₀ ≡ length before
       → Behind (emit_test (renamed_test current (matching p r i))) 0 at before nodes to × (1 ≤ to)
-  ends {j = j} m h e d q f b same =
-      let all : j ≡ key_count p (table_of r i) = omega (arith, m.within) ∙ q ∙ d ∙ ap (key_count p) e in
+  ends {j = j} m h e d f b same =
+      let all : j ≡ key_count p (table_of r i) = omega (arith, m.within) ∙ d ∙ ap (key_count p) e in
       (rw all at (m.written same (no_keys p r current i 0 (rw f at b))), m.some)

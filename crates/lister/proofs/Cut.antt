@@ -4,12 +4,11 @@ use native.Mathlib.Omega.{arith}
 use mathlib.Core.Path.{◌≡◌, refl, sym, ap, ◌∙◌}
 use mathlib.Core.Bool.{Bool, true, false}
 use mathlib.Core.List.{List, [], ◌∷◌}
-use mathlib.Core.Option.{Option, none, some}
 use lib.Dec.{eqb, ltb, leb}
 use lib.ListN.{length, take}
 use lib.Seq.{length-take-le, take_all, get_or-take}
 use borrow.Author.Tests.{ltb-true, ltb-false, leb-true, leb-false, le-ltb, lt-leb, ne_eqb}
-use Rattle.std.specs.Prelude.{if◌then◌else◌}
+use Rattle.std.specs.Prelude.{if◌then◌else◌, Option, Some, None}
 use Rattle.model.specs.Lists.{word}
 use Rattle.model.specs.Files.{file_limit, turn, groups, Record, bytes, record_at, Held, whole, fault, behind, marked_by, record_there, records_from, too_long, held}
 use Rattle.model.specs.Calls as calls
@@ -34,8 +33,8 @@ late_if at false h k l m = m
 late_there : (file : List ℕ) (at now : ℕ) (rest : ℕ → ℕ → Held) → ((next turned : ℕ) → Late next (rest next turned)) → (o : Option Group)
     → Late at (record_there file at now rest o)
 unfolding record_there
-late_there file at now rest l none = omega arith
-late_there file at now rest l (some g) =
+late_there file at now rest l None = omega arith
+late_there file at now rest l (Some g) =
     let next = at + bytes g in
     let here : at ≤ at = omega arith in
     let past : at ≤ next = omega arith in
@@ -86,8 +85,8 @@ module _ (x y : List ℕ) (same : (i : ℕ) → i < read_limit → word x i ≡ 
       (rest : (g : Group) → too_long (more (at + bytes g) (turn g)) ≡ too_long (other (at + bytes g) (turn g))) where
     there_same : (o : Option Group) → too_long (record_there x at now more o) ≡ too_long (record_there y at now other o)
     unfolding record_there
-    there_same none = refl
-    there_same (some g) =
+    there_same None = refl
+    there_same (Some g) =
         let next = at + bytes g in
         let l : next < read_limit = omega (arith, longest g) in
         rw (le-ltb (length x) next (omega arith), le-ltb (length y) next (omega arith), ne_eqb next (length x) (λ e. omega arith), ne_eqb next (length y) (λ e. omega arith))

@@ -1,10 +1,11 @@
 -- What the answers of Load and Passify say of the areas that were lent, and of the text. Assumes nothing.
 use Prim.Native.Nat.{ℕ, ◌+◌, ◌*◌, ◌<◌, ◌≤◌}
 use native.Mathlib.Omega.{arith}
-use mathlib.Core.Path.{◌≡◌, refl, sym, ap, subst, ◌∙◌}
+use mathlib.Core.Path.{◌≡◌, refl, sym, ap, ◌∙◌}
 use mathlib.Core.List.{List, [], ◌∷◌, ◌++◌}
-use lib.ListN.{length, take, drop, length-append, get_or-append}
-use lib.Seq.{length-take-le, take-append_seam, ext_get_or}
+use lib.ListN.{length, take, drop, replicate, length-append, get_or-append, length-replicate}
+use lib.Seq.{take-append_seam, ext_get_or}
+use Rattle.std.specs.Prelude.{Result, Ok, Err}
 use Rattle.model.specs.Lists.{word, each}
 use Rattle.model.specs.Blocks.{node, words, plain_node}
 use Rattle.model.specs.Emit.{Emitted}
@@ -14,14 +15,12 @@ use Rattle.model.specs.Calls.{over, written, TwoBlocks, Loads, Passifies}
 use Rattle.model.specs.Listing.{block_room, node_room, width_room, heading_text, node_lines, form_text, text_of, listing}
 use Rattle.model.specs.declared.Node.{Node}
 use Rattle.model.specs.declared.Refusal.{Refusal}
-use Rattle.model.specs.declared.Loaded.{Loaded}
-use Rattle.model.specs.declared.Passified.{Passified}
+use Rattle.model.specs.declared.Blocks as loaded
+use Rattle.model.specs.declared.Form.{Form}
 use Rattle.model.proofs.Passing.{refusal_refuses}
 use Rattle.model.proofs.Lists.{length-each, each_at}
 use Rattle.model.proofs.NodeList.{length-words, plain_node-words}
-use Rattle.text.specs.Adds.{Adds}
-use Rattle.text.proofs.Pieces.{follow}
-use Rattle.lister.specs.Lines.{refused_as}
+use Rattle.lister.specs.Lines.{refused_as, Listed, Forms}
 
 -- ---- areas
 
@@ -88,41 +87,12 @@ told-refused : (why : Refusal) {A : Type 0} (values : A → List ℕ) (x : Answe
 told-refused why values (done w) e = absurd (refusal_refuses why (values w) e)
 told-refused why values (refused number place) e = rw e
 
--- ---- what `form` goes by
-
-module _ {p r nodes widths : List ℕ} {a : Passified} {nodes' widths' : List ℕ} (h : Passifies p r nodes widths a nodes' widths')
-    (nodes_lent : length nodes ≡ node_room) (widths_lent : length widths ≡ width_room) where
-  pub form-refused : {why : Refusal} {x : List ℕ} {end : ℕ} {z : List ℕ} → a ≡ Passified.Refused why
-      → Adds (text_of (refused_as (refusal_of why))) 0 x end z → Adds (text_of (calls.passify p r node_room width_room)) 0 x end z
-  form-refused {why} e s =
-      rw (told-refused why _ (calls.passify p r node_room width_room) (rw (nodes_lent, widths_lent, e) at h.answers)) s
-
-  module _ {n variables : ℕ} (e : a ≡ Passified.Form n variables) (same : length nodes' ≡ length nodes) where
-    formed : Formed p r n variables nodes'
-    formed =
-        told-form p r nodes nodes' n variables (calls.passify p r node_room width_room) refl
-        (rw (nodes_lent, widths_lent, e) at h.answers) (rw (nodes_lent, widths_lent) at h.nodes_area) same
-
-    pub nodes-room : 4 * n ≤ length nodes'
-    nodes-room = formed.room
-
-    pub few-nodes : n ≤ 2400
-    few-nodes = omega (arith, nodes-room, same, nodes_lent)
-
-    pub form_adds : {x : List ℕ} {m : ℕ} {y : List ℕ} {end : ℕ} {z : List ℕ} → Adds (heading_text n variables) 0 x m y
-        → Adds (node_lines 0 (each (plain_node nodes') n)) m y end z → Adds (text_of (calls.passify p r node_room width_room)) 0 x end z
-    form_adds {x = x} {end = end} {z = z} s t =
-        rw formed.gives
-        (subst (λ text. Adds text 0 x end z) (same_text formed.form _ _ _ formed.count formed.all_widths formed.stand) (follow s t))
-
 -- ---- Load
 
 -- what it leaves where it gives the blocks
 record Blocks (file : List ℕ) (p r : ℕ) (pipeline_area rules_area : List ℕ) : Type 0 where
   blocks : TwoBlocks
   gives : calls.load file block_room block_room ≡ done blocks
-  pipeline_room : p ≤ length pipeline_area
-  rules_room : r ≤ length rules_area
   pipeline_stands : take p pipeline_area ≡ blocks.pipeline
   rules_stand : take r rules_area ≡ blocks.rules
 
@@ -136,42 +106,52 @@ told_blocks file pipeline rules pipeline' rules' p r (done b) gives e h k same a
     record {
       blocks = b;
       gives = gives;
-      pipeline_room = rw at_pipeline (over-room b.pipeline pipeline pipeline' h same);
-      rules_room = rw at_rules (over-room b.rules rules rules' k also);
       pipeline_stands = rw at_pipeline (over-start b.pipeline pipeline pipeline' h same);
       rules_stand = rw at_rules (over-start b.rules rules rules' k also);
     }
 told_blocks file pipeline rules pipeline' rules' p r (refused number place) gives e h k same also = let z : ◌≡◌ {A = ℕ} 0 1 = cc in absurd (omega arith)
 
--- ---- what `listing` goes by
+-- ---- what the passive form of a file goes by
 
-module _ {file pipeline rules : List ℕ} {a : Loaded} {pipeline' rules' : List ℕ} (h : Loads file pipeline rules a pipeline' rules')
-    (pipeline_lent : length pipeline ≡ block_room) (rules_lent : length rules ≡ block_room) where
-  pub load-refused : {why : Refusal} {x : List ℕ} {end : ℕ} {z : List ℕ} → a ≡ Loaded.Refused why
-      → Adds (text_of (refused_as (refusal_of why))) 0 x end z → Adds (listing file) 0 x end z
+-- the room that it lends
+pub zeros : (n : ℕ) → length (replicate {A = ℕ} n 0) ≡ n
+zeros n = length-replicate n 0
+
+module _ (file : List ℕ) {pipeline rules pipeline' rules' : List ℕ} (pipeline_lent : length pipeline ≡ block_room) (rules_lent : length rules ≡ block_room) where
+  pub load-refused : {why : Refusal} → Loads file pipeline rules (Err why) pipeline' rules' → listing file ≡ text_of (refused_as (refusal_of why))
   unfolding listing
-  load-refused {why} e s = rw (told-refused why _ (calls.load file block_room block_room) (rw (pipeline_lent, rules_lent, e) at h.answers)) s
+  load-refused {why} h = rw (told-refused why _ (calls.load file block_room block_room) (rw (pipeline_lent, rules_lent) at h.answers))
 
-  module _ {p r : ℕ} (e : a ≡ Loaded.Blocks p r) (same : length pipeline' ≡ length pipeline) (also : length rules' ≡ length rules) where
-    stands : Blocks file p r pipeline' rules'
+  module _ {b : loaded.Blocks} (h : Loads file pipeline rules (Ok b) pipeline' rules') (same : length pipeline' ≡ length pipeline) (also : length rules' ≡ length rules) where
+    stands : Blocks file b.pipeline b.rules pipeline' rules'
     stands =
-        told_blocks file pipeline rules pipeline' rules' p r (calls.load file block_room block_room) refl
-        (rw (pipeline_lent, rules_lent, e) at h.answers) (rw (pipeline_lent, rules_lent) at h.pipeline_area) (rw (pipeline_lent, rules_lent) at h.rules_area)
+        told_blocks file pipeline rules pipeline' rules' b.pipeline b.rules (calls.load file block_room block_room) refl
+        (rw (pipeline_lent, rules_lent) at h.answers) (rw (pipeline_lent, rules_lent) at h.pipeline_area) (rw (pipeline_lent, rules_lent) at h.rules_area)
         same also
 
-    pub pipeline-room : p ≤ length pipeline'
-    pipeline-room = stands.pipeline_room
+    abbrev p : List ℕ
+    p = take b.pipeline pipeline'
 
-    pub pipeline-counted : p ≡ length (take p pipeline')
-    pipeline-counted = sym (length-take-le p pipeline' pipeline-room)
+    abbrev r : List ℕ
+    r = take b.rules rules'
 
-    pub rules-room : r ≤ length rules'
-    rules-room = stands.rules_room
-
-    pub rules-counted : r ≡ length (take r rules')
-    rules-counted = sym (length-take-le r rules' rules-room)
-
-    pub listed : {x : List ℕ} {end : ℕ} {z : List ℕ} → Adds (text_of (calls.passify (take p pipeline') (take r rules') node_room width_room)) 0 x end z
-        → Adds (listing file) 0 x end z
+    listed : listing file ≡ text_of (calls.passify p r node_room width_room)
     unfolding listing
-    listed s = rw (stands.gives, ← stands.pipeline_stands, ← stands.rules_stand) s
+    listed = rw (stands.gives, ← stands.pipeline_stands, ← stands.rules_stand)
+
+    is_listed : {f : Form} {area : List ℕ} → Formed p r f.nodes f.variables area → length area ≡ node_room → Listed file f area
+    is_listed x lent = record {
+      few = omega (arith, x.room, lent);
+      there = x.room;
+      text = listed ∙ rw x.gives (sym (same_text x.form _ _ _ x.count x.all_widths x.stand));
+    }
+
+    module _ {nodes widths nodes' widths' : List ℕ} (nodes_lent : length nodes ≡ node_room) (widths_lent : length widths ≡ width_room) where
+      formed : {f : Form} → Passifies p r nodes widths (Ok f) nodes' widths' → length nodes' ≡ length nodes → Formed p r f.nodes f.variables nodes'
+      formed {f} k kept =
+          told-form p r nodes nodes' f.nodes f.variables (calls.passify p r node_room width_room) refl
+          (rw (nodes_lent, widths_lent) at k.answers) (rw (nodes_lent, widths_lent) at k.nodes_area) kept
+
+      pub forms : (a : Result Form Refusal) → Passifies p r nodes widths a nodes' widths' → length nodes' ≡ length nodes → Forms file a nodes'
+      forms (Ok f) k kept = is_listed (formed k kept) (kept ∙ nodes_lent)
+      forms (Err why) k kept = listed ∙ ap text_of (told-refused why _ (calls.passify p r node_room width_room) (rw (nodes_lent, widths_lent) at k.answers))

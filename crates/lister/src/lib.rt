@@ -6,111 +6,113 @@ ghost use Rattle.model.specs.Lists.{each};
 ghost use Rattle.model.specs.Blocks.{plain_node};
 ghost use Rattle.model.specs.Bytes.{decimal};
 ghost use Rattle.model.specs.Answers.{refusal_of};
-ghost use Rattle.model.specs.Calls.{passify};
-ghost use Rattle.model.specs.Listing.{node_room, width_room, heading_text, node_line, node_lines, text_of, listing};
-ghost use Rattle.text.specs.Adds.{Adds};
-ghost use Rattle.lister.specs.Lines.{refused_as, line_room, text_room, read_limit};
+ghost use Rattle.model.specs.Listing.{heading_text, node_line, node_lines, text_of, listing};
+ghost use Rattle.text.specs.Adds.{Adds, Grows};
+ghost use Rattle.lister.specs.Lines.{refused_as, line_room, text_room, read_limit, Forms, Lists};
 
 use blocks::{NODE, node_at};
-use model::{Loaded, Node, Passified, Refusal};
+use model::{Form, Node, Refusal};
 use passive::passify;
 use records::load;
+use text::Text;
 
 // A number and the byte behind it.
-fn number(n: u64, last: u8, at: usize, out: &mut [u8]) -> usize
-    requires { at + 21 ≤ length out.old }
-    ensures adds { Adds (decimal n ++ (last ∷ [])) at out.old result out.new }
-    ensures upper_bound { result ≤ at + 21 }
+#[tactic(auto, using(text::proofs::Decimals::decimal_short))]
+fn number(n: u64, last: u8, out: &mut Text)
+    requires { out.old.end + 21 ≤ length out.old.area.now }
+    ensures grows { Grows (decimal n ++ (last ∷ [])) out.old out.new }
+    ensures upper_bound { out.new.end ≤ out.old.end + 21 }
 {
-    let end = text::decimal(n, at, out);
-    text::put(&[last], end, out)
+    out.decimal(n);
+    out.put(&[last]);
 }
 
-fn refusal(why: Refusal, out: &mut [u8]) -> usize
-    requires { line_room ≤ length out.old }
-    ensures { Adds (text_of (refused_as (refusal_of why))) 0 out.old result out.new }
+fn refusal(why: Refusal, out: &mut Text)
+    requires { out.old.end + line_room ≤ length out.old.area.now }
+    ensures { Grows (text_of (refused_as (refusal_of why))) out.old out.new }
 {
-    let at = text::put(b"refused ", 0, out);
-    let at = number(refusals::number(why), b' ', at, out);
-    let at = text::put(b"at ", at, out);
-    number(refusals::place(why), b'\n', at, out)
+    out.put(b"refused ");
+    number(refusals::number(why), b' ', out);
+    out.put(b"at ");
+    number(refusals::place(why), b'\n', out);
 }
 
 // The first line: n, V and 3n + 1.
-fn heading(nodes: usize, variables: usize, out: &mut [u8]) -> usize
+fn heading(nodes: usize, variables: usize, out: &mut Text)
     requires nodes_bound { nodes ≤ 2400 }
-    requires line_room_in_bounds { line_room ≤ length out.old }
-    ensures adds { Adds (heading_text nodes variables) 0 out.old result out.new }
-    ensures upper_bound { result ≤ line_room }
+    requires line_room_in_bounds { out.old.end + line_room ≤ length out.old.area.now }
+    ensures grows { Grows (heading_text nodes variables) out.old out.new }
+    ensures upper_bound { out.new.end ≤ out.old.end + line_room }
 {
-    let at = text::put(b"passive ", 0, out);
-    let at = number(nodes as u64, b' ', at, out);
-    let at = text::put(b"variables ", at, out);
-    let at = number(variables as u64, b' ', at, out);
-    let at = text::put(b"condition ", at, out);
-    number(3 * nodes as u64 + 1, b'\n', at, out)
+    out.put(b"passive ");
+    number(nodes as u64, b' ', out);
+    out.put(b"variables ");
+    number(variables as u64, b' ', out);
+    out.put(b"condition ");
+    number(3 * nodes as u64 + 1, b'\n', out);
 }
 
 // A node's number, kind, a, b, c.
-fn line(i: usize, n: Node, at: usize, out: &mut [u8]) -> usize
-    requires { at + line_room ≤ length out.old }
-    ensures adds { Adds (node_line i n) at out.old result out.new }
-    ensures upper_bound { result ≤ at + line_room }
+fn line(i: usize, n: Node, out: &mut Text)
+    requires { out.old.end + line_room ≤ length out.old.area.now }
+    ensures grows { Grows (node_line i n) out.old out.new }
+    ensures upper_bound { out.new.end ≤ out.old.end + line_room }
 {
-    let at = number(i as u64, b' ', at, out);
-    let at = number(n.kind as u64, b' ', at, out);
-    let at = number(n.a as u64, b' ', at, out);
-    let at = number(n.b as u64, b' ', at, out);
-    number(n.c as u64, b'\n', at, out)
+    number(i as u64, b' ', out);
+    number(n.kind as u64, b' ', out);
+    number(n.a as u64, b' ', out);
+    number(n.b as u64, b' ', out);
+    number(n.c as u64, b'\n', out);
 }
 
 // A line for each of the first nodes.
-fn lines(nodes: &[u32], count: usize, at: usize, out: &mut [u8]) -> usize
+fn lines(nodes: &[u32], count: usize, out: &mut Text)
     requires count_in_bounds { 4 * count ≤ length nodes.now }
-    requires count_in_bounds_2 { at + line_room * count ≤ length out.old }
-    ensures { Adds (node_lines 0 (each (plain_node nodes.now) count)) at out.old result out.new }
+    requires lines_room_in_bounds { out.old.end + line_room * count ≤ length out.old.area.now }
+    ensures { Grows (node_lines 0 (each (plain_node nodes.now) count)) out.old out.new }
 {
-    let mut end = at;
-    let mut i = 0;
-    while i < count {
-        end = line(i, node_at(nodes, NODE * i), end, out);
-        i += 1;
+    for i in 0..count {
+        line(i, node_at(nodes, NODE * i), out);
     }
-    end
 }
 
-// The passive form of a pipeline, or the refusal.
-fn form(pipeline: &[u32], rules: &[u32], out: &mut [u8]) -> usize
-    requires { text_room ≤ length out.old }
-    ensures { Adds (text_of (passify pipeline.now rules.now node_room width_room)) 0 out.old result out.new }
+// The passive form of a file, in an area that has room for every form that is listed.
+fn passive_form(file: &[u8], nodes: &mut [u32; 9600]) -> Result<Form, Refusal>
+    ensures { Forms file.now result nodes.new }
+{
+    let mut pipeline = [0u32; 10000];
+    let mut rules = [0u32; 10000];
+    let mut widths = [0u32; 2432];
+    let blocks = load(file, &mut pipeline, &mut rules)?;
+    passify(
+        &pipeline[..blocks.pipeline],
+        &rules[..blocks.rules],
+        &mut nodes[..],
+        &mut widths,
+    )
+}
+
+// The text of a passive form; where there is none, nothing is written.
+fn form(file: &[u8], out: &mut Text) -> Result<(), Refusal>
+    requires { out.old.end + text_room ≤ length out.old.area.now }
+    ensures { Lists file.now out.old result out.new }
 {
     let mut nodes = [0u32; 9600];
-    let mut widths = [0u32; 2432];
-    match passify(pipeline, rules, &mut nodes, &mut widths) {
-        Passified::Form {
-            nodes: count,
-            variables,
-        } => {
-            let at = heading(count, variables, out);
-            lines(&nodes, count, at, out)
-        }
-        Passified::Refused(why) => refusal(why, out),
-    }
+    let form = passive_form(file, &mut nodes)?;
+    heading(form.nodes, form.variables, out);
+    lines(&nodes, form.nodes, out);
+    Ok(())
 }
 
 // The whole text, at the start of an area that has room for every text; the answer is its length.
 pub fn listing(file: &[u8], out: &mut [u8; 252105]) -> usize
     ensures { Adds (listing file.now) 0 out.old result out.new }
 {
-    let mut pipeline = [0u32; 10000];
-    let mut rules = [0u32; 10000];
-    match load(file, &mut pipeline, &mut rules) {
-        Loaded::Blocks {
-            pipeline: p,
-            rules: r,
-        } => form(&pipeline[..p], &rules[..r], &mut out[..]),
-        Loaded::Refused(why) => refusal(why, &mut out[..]),
+    let mut written = Text::new(&mut out[..]);
+    if let Err(why) = form(file, &mut written) {
+        refusal(why, &mut written);
     }
+    written.end
 }
 
 // Room for the bytes of a file that decide its text, and for the text.

@@ -7,7 +7,8 @@ ghost use Rattle.std.specs.Prelude.{◌≤◌, length, IfOk};
 use std::io;
 use std::io::Write;
 
-// Fills the area from its start, until it is full or the input has ended, and says how many bytes came.
+// Fills the area from its start, until it is full or the input has ended, and says how many bytes came. The library has no such call:
+// `read_exact` fails where the input ends early, and `read_to_end` needs a heap.
 fn read_full<R: io::Read>(input: &mut R, area: &mut [u8]) -> io::Result<usize>
     ensures { IfOk result (λ count. count ≤ length area.new) }
 {

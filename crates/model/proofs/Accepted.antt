@@ -11,7 +11,7 @@ use lib.Bits.{bit_and, and_le_r}
 use lib.Pow.{pow_pos}
 use borrow.Author.Tests.{eqb-true, ltb-true, leb-true, lt-ltb, not-true}
 use Rattle.bits.specs.Width.{fits, under}
-use Rattle.std.specs.Prelude.{if◌then◌else◌}
+use Rattle.std.specs.Prelude.{if◌then◌else◌, Some, None}
 use Rattle.model.specs.Lists.{within, word, each, every, exists, times, among, those}
 use Rattle.model.specs.Blocks.{F, N, A, T, R, root, size, pipeline_length, width, widths, Call, call_at, pipeline_node, body, parameter_count, parameter_width, key_count, key, default_place, table_of, value, mask, call_place}
 use Rattle.model.specs.Nodes.{kinds, is_width, is_formed, is_statement, sort_of}
@@ -23,7 +23,6 @@ use Rattle.model.specs.Refusals.{counts_well, pipeline_sorts, sort_at, well_or_z
 use Rattle.model.specs.Calls.{check}
 use Rattle.model.specs.Demands.{Clear, Accepted}
 use Rattle.model.specs.declared.Group.{Group}
-use Rattle.model.specs.declared.Hit.{Hit}
 use Rattle.model.specs.declared.Kind.{Kind}
 use Rattle.model.specs.declared.Stage.{Stage}
 use Rattle.model.specs.declared.Sort.{Sort}
@@ -285,8 +284,8 @@ pub record WellFormed (p r : List ℕ) : Type 0 where
   pub root_below : root p < N p
   pub body_below : (k : ℕ) → k < A p → body p k < N p
   pub program_good : Good (widths p) (T p) (program p)
-  pub default_good : (t : ℕ) → t < T p → Good (widths p) 0 (called p (call_of p r t Hit.Default))
-  pub rule_good : (i : ℕ) → i < R r → (t : ℕ) → Good (widths p) 0 (called p (call_of p r t (Hit.Rule i)))
+  pub default_good : (t : ℕ) → t < T p → Good (widths p) 0 (called p (call_of p r t None))
+  pub rule_good : (i : ℕ) → i < R r → (t : ℕ) → Good (widths p) 0 (called p (call_of p r t (Some i)))
   pub matching_good : (i : ℕ) → i < R r → GoodTest (widths p) (matching p r i)
 
 pub accepted-good : (p r : List ℕ) → Accepted p r → WellFormed p r

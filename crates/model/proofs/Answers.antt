@@ -4,33 +4,27 @@ use Prim.Native.Nat.{ℕ, zero, suc}
 use mathlib.Core.Path.{◌≡◌, refl, sym, ap, ◌∙◌}
 use mathlib.Core.Bool.{Bool, true, false}
 use mathlib.Core.List.{List, [], ◌∷◌, ◌++◌}
-use mathlib.Core.Option.{Option, none, some}
 use mathlib.Core.Logic.{inl, inr}
 use lib.ListN.{get_or, length}
 use denote.Ref.{Bor}
 use Rattle.bits.specs.Width.{fits}
-use Rattle.std.specs.Prelude.{if◌then◌else◌}
+use Rattle.std.specs.Prelude.{if◌then◌else◌, Option, Some, None, Result, Ok, Err}
 use Rattle.model.specs.Lists.{word, first_not}
 use Rattle.model.specs.Trees.{Stmt, truth_of, bits_in}
 use Rattle.model.specs.Tables.{part_words}
 use Rattle.model.specs.Runs.{State, Outcome, and_then, with_next, take_side, take_value, run, run_table, no_apply, pipeline_run}
 use Rattle.model.specs.Condition.{evaluated, last_truth}
 use Rattle.model.specs.Answers as said
-use Rattle.model.specs.Answers.{Answer, done, refused, after, told, refusal_of, yes_or_no}
+use Rattle.model.specs.Answers.{Answer, done, refused, after, told, refusal_of, answered, yes_or_no}
 use Rattle.model.specs.Refusals.{Row, given, judge, check_rows, condition_rows, evaluate_rows, late_row}
 use Rattle.model.specs.Calls as calls
 use Rattle.model.specs.Calls.{Begins, end_values, words_into, lookup, ended, fails_whole, load, block_lengths, check, confirm, passify, condition, evaluate, extract, load_rows, start_rows, run_rows, passify_rows, extract_rows}
 use Rattle.model.specs.Demands.{One, SamePart, OneAnswer, Demand1}
 use Rattle.model.specs.declared.Refusal.{Refusal}
 use Rattle.model.specs.declared.Part.{Part}
-use Rattle.model.specs.declared.Loaded.{Loaded}
-use Rattle.model.specs.declared.Checked.{Checked}
+use Rattle.model.specs.declared.Blocks.{Blocks}
 use Rattle.model.specs.declared.Ran.{Ran}
-use Rattle.model.specs.declared.Confirmed.{Confirmed}
-use Rattle.model.specs.declared.Passified.{Passified}
-use Rattle.model.specs.declared.Built.{Built}
-use Rattle.model.specs.declared.Evaluated.{Evaluated}
-use Rattle.model.specs.declared.Extracted.{Extracted}
+use Rattle.model.specs.declared.Form.{Form}
 use Rattle.model.proofs.CallRefusals.{exact_calls}
 
 -- the refusal with a number and a place
@@ -104,8 +98,8 @@ judge_fine [] all = tt
 judge_fine (row ∷ rows) (h and rest) = go (first_not row.well row.count) (judge_fine rows rest)
   where
     go : (o : Option ℕ) → Fine Any (judge rows) → Fine Any (given row o (judge rows))
-    go (some i) k = h i
-    go none k = k
+    go (Some i) k = h i
+    go None k = k
 
 -- Run
 
@@ -176,72 +170,62 @@ module _ {A B : Type 0} {said : A → Answer (List ℕ)} {made : List ℕ → A}
       let e = says values m h in
       (the_answer values m, e, λ y k. one_said speaks y (the_answer values m) (told values m) k e)
 
-speaks_loaded : Speaks said.loaded (λ xs. Loaded.Blocks (word xs 0) (word xs 1)) Loaded.Refused
-speaks_loaded = record { inverse = inverse; refuses = λ r. refl }
-  where
-    inverse : (x : Loaded) → back (λ xs. Loaded.Blocks (word xs 0) (word xs 1)) Loaded.Refused (said.loaded x) ≡ x
-    inverse (Loaded.Blocks p r) = refl
-    inverse (Loaded.Refused r) = refusal_back (λ xs. Loaded.Blocks (word xs 0) (word xs 1)) Loaded.Refused r
+-- the answer that says a call's values, where they say which success it is
+module _ {A : Type 0} (values : A → List ℕ) (made : List ℕ → A) (inverse : (x : A) → made (values x) ≡ x) where
+  pub speaks : Speaks (answered values) (λ xs. Ok (made xs)) Err
+  speaks = record { inverse = back_to; refuses = λ r. refl }
+    where
+      back_to : (x : Result A Refusal) → back (λ xs. Ok (made xs)) Err (answered values x) ≡ x
+      back_to (Ok x) = ap Ok (inverse x)
+      back_to (Err r) = refusal_back (λ xs. Ok (made xs)) Err r
 
-speaks_checked : Speaks said.checked (λ _. Checked.Accepted) Checked.Refused
-speaks_checked = record { inverse = inverse; refuses = λ r. refl }
-  where
-    inverse : (x : Checked) → back (λ _. Checked.Accepted) Checked.Refused (said.checked x) ≡ x
-    inverse Checked.Accepted = refl
-    inverse (Checked.Refused r) = refusal_back (λ _. Checked.Accepted) Checked.Refused r
+-- what some values say: Load's success, Check's, Passify's, a count
+abbrev two_lengths : List ℕ → Blocks
+two_lengths xs = record { pipeline = word xs 0; rules = word xs 1 }
 
--- Run's success, and a success that says yes or no
+abbrev accepted : List ℕ → Unit {0}
+accepted xs = tt
+
+abbrev two_sizes : List ℕ → Form
+two_sizes xs = record { nodes = word xs 0; variables = word xs 1 }
+
+abbrev first : List ℕ → ℕ
+first xs = word xs 0
+
+speaks_loaded : Speaks said.loaded (λ xs. Ok (two_lengths xs)) Err
+speaks_loaded = speaks said.lengths two_lengths (λ b. refl)
+
+speaks_checked : Speaks said.checked (λ xs. Ok (accepted xs)) Err
+speaks_checked = speaks said.nothing accepted (λ _. refl)
+
+-- Run's success, and one that says yes or no
 abbrev end_of : List ℕ → Ran
 end_of xs = get_or (Ran.Passed (word xs 2) ∷ Ran.Blocked (word xs 1) (word xs 2) ∷ Ran.Failed (word xs 1) (word xs 2) ∷ []) (word xs 0) (Ran.Passed 0)
 
-abbrev choose : {A : Type 0} → A → A → List ℕ → A
-choose x y xs = get_or (x ∷ y ∷ []) (word xs 0) x
+end-of_ending : (e : Ran) → end_of (said.ending e) ≡ e
+end-of_ending (Ran.Passed used) = refl
+end-of_ending (Ran.Blocked node used) = refl
+end-of_ending (Ran.Failed node used) = refl
 
-pub speaks_ran : Speaks said.ran end_of Ran.Refused
-speaks_ran = record { inverse = inverse; refuses = λ r. refl }
-  where
-    inverse : (x : Ran) → back end_of Ran.Refused (said.ran x) ≡ x
-    inverse (Ran.Passed used) = refl
-    inverse (Ran.Blocked node used) = refl
-    inverse (Ran.Failed node used) = refl
-    inverse (Ran.Refused r) = refusal_back end_of Ran.Refused r
+abbrev yes : List ℕ → Bool
+yes xs = get_or (false ∷ true ∷ []) (word xs 0) false
 
-pub speaks_confirmed : Speaks said.confirmed (choose Confirmed.No Confirmed.Yes) Confirmed.Refused
-speaks_confirmed = record { inverse = inverse; refuses = λ r. refl }
-  where
-    inverse : (x : Confirmed) → back (choose Confirmed.No Confirmed.Yes) Confirmed.Refused (said.confirmed x) ≡ x
-    inverse Confirmed.Yes = refl
-    inverse Confirmed.No = refl
-    inverse (Confirmed.Refused r) = refusal_back (choose Confirmed.No Confirmed.Yes) Confirmed.Refused r
+yes-or_no : (b : Bool) → yes (yes_or_no b) ≡ b
+yes-or_no true = refl
+yes-or_no false = refl
 
-speaks_passified : Speaks said.passified (λ xs. Passified.Form (word xs 0) (word xs 1)) Passified.Refused
-speaks_passified = record { inverse = inverse; refuses = λ r. refl }
-  where
-    inverse : (x : Passified) → back (λ xs. Passified.Form (word xs 0) (word xs 1)) Passified.Refused (said.passified x) ≡ x
-    inverse (Passified.Form n w) = refl
-    inverse (Passified.Refused r) = refusal_back (λ xs. Passified.Form (word xs 0) (word xs 1)) Passified.Refused r
+pub speaks_ran : Speaks said.ran (λ xs. Ok (end_of xs)) Err
+speaks_ran = speaks said.ending end_of end-of_ending
 
-speaks_built : Speaks said.built (λ xs. Built.Entries (word xs 0)) Built.Refused
-speaks_built = record { inverse = inverse; refuses = λ r. refl }
-  where
-    inverse : (x : Built) → back (λ xs. Built.Entries (word xs 0)) Built.Refused (said.built x) ≡ x
-    inverse (Built.Entries n) = refl
-    inverse (Built.Refused r) = refusal_back (λ xs. Built.Entries (word xs 0)) Built.Refused r
+pub speaks_confirmed : Speaks said.confirmed (λ xs. Ok (yes xs)) Err
+speaks_confirmed = speaks yes_or_no yes yes-or_no
 
-speaks_evaluated : Speaks said.evaluated (choose Evaluated.False Evaluated.True) Evaluated.Refused
-speaks_evaluated = record { inverse = inverse; refuses = λ r. refl }
-  where
-    inverse : (x : Evaluated) → back (choose Evaluated.False Evaluated.True) Evaluated.Refused (said.evaluated x) ≡ x
-    inverse Evaluated.True = refl
-    inverse Evaluated.False = refl
-    inverse (Evaluated.Refused r) = refusal_back (choose Evaluated.False Evaluated.True) Evaluated.Refused r
+speaks_passified : Speaks said.passified (λ xs. Ok (two_sizes xs)) Err
+speaks_passified = speaks said.sizes two_sizes (λ f. refl)
 
-speaks_extracted : Speaks said.extracted (λ xs. Extracted.Choices (word xs 0)) Extracted.Refused
-speaks_extracted = record { inverse = inverse; refuses = λ r. refl }
-  where
-    inverse : (x : Extracted) → back (λ xs. Extracted.Choices (word xs 0)) Extracted.Refused (said.extracted x) ≡ x
-    inverse (Extracted.Choices n) = refl
-    inverse (Extracted.Refused r) = refusal_back (λ xs. Extracted.Choices (word xs 0)) Extracted.Refused r
+-- Condition's and Extract's, and Evaluate's
+speaks_count : Speaks said.built (λ xs. Ok (first xs)) Err
+speaks_count = speaks said.count first (λ n. refl)
 
 known_check : (p r : List ℕ) → Known (check_rows p r)
 unfolding check_rows
@@ -278,10 +262,9 @@ run-one p r packet choices lent =
     go (Outcome.failed n s) h = refl
     go (Outcome.refused n q) h = h
 
-yes_or_no_lem : {A : Type 0} (said : A → Answer (List ℕ)) (x y : A) (b : Bool) → said x ≡ done (yes_or_no false) → said y ≡ done (yes_or_no true)
-    → said (choose x y (yes_or_no b)) ≡ done (yes_or_no b)
-yes_or_no_lem said x y true h k = k
-yes_or_no_lem said x y false h k = h
+yes_or_no_lem : (b : Bool) → Made speaks_confirmed yes_or_no b
+yes_or_no_lem true = refl
+yes_or_no_lem false = refl
 
 confirm-one : (p r packet choices : List ℕ) → One (λ x. said.confirmed x ≡ told yes_or_no (confirm p r packet choices))
 unfolding confirm
@@ -289,7 +272,7 @@ confirm-one p r packet choices =
     call speaks_confirmed yes_or_no (confirm p r packet choices)
     (rows_fine _ (start_rows p r packet) _ (known_start p r packet)
     (after_fine Any _ (ended (pipeline_run p r packet choices)) _ (pipeline_fine p r packet choices)
-    (λ e _. yes_or_no_lem said.confirmed Confirmed.No Confirmed.Yes (fails_whole choices e) refl refl)))
+    (λ e _. yes_or_no_lem (fails_whole choices e))))
 
 passify-one : (p r : List ℕ) (n w : ℕ) → One (λ x. said.passified x ≡ told (λ e. length e.nodes ∷ length e.widths ∷ []) (passify p r n w))
 unfolding passify
@@ -300,22 +283,22 @@ passify-one p r n w =
 condition-one : (nodes ws : List ℕ) (lent : ℕ) → One (λ x. said.built x ≡ told (λ es. length es ∷ []) (condition nodes ws lent))
 unfolding condition
 condition-one nodes ws lent =
-    call speaks_built _ (condition nodes ws lent)
+    call speaks_count _ (condition nodes ws lent)
     (rows_fine _ (condition_rows nodes ws lent) _ ((λ i. refl) and (λ i. refl) and (λ i. refl) and (λ i. refl) and all) refl)
 
 evaluate-one : (entries ws valuation : List ℕ) (lent : ℕ)
     → One (λ x. said.evaluated x ≡ told (λ xs. yes_or_no (last_truth xs)) (evaluate entries ws valuation lent))
 unfolding evaluate
 evaluate-one entries ws valuation lent =
-    call speaks_evaluated _ (evaluate entries ws valuation lent)
+    call speaks_confirmed _ (evaluate entries ws valuation lent)
     (rows_fine _ (evaluate_rows entries ws valuation lent ++ (late_row entries ws ∷ [])) _
     ((λ i. refl) and (λ i. refl) and (λ i. refl) and (λ i. refl) and (λ i. refl) and (λ i. refl) and all)
-    (yes_or_no_lem said.evaluated Evaluated.False Evaluated.True (last_truth (evaluated entries (bits_in ws valuation))) refl refl))
+    (yes_or_no_lem (last_truth (evaluated entries (bits_in ws valuation)))))
 
 extract-one : (p r valuation : List ℕ) (n c : ℕ) → One (λ x. said.extracted x ≡ told (λ w. length w.choices ∷ []) (extract p r valuation n c))
 unfolding extract check_rows
 extract-one p r valuation n c =
-    call speaks_extracted _ (extract p r valuation n c)
+    call speaks_count _ (extract p r valuation n c)
     (rows_fine _ (extract_rows p r valuation n c) _
     (known_append (known_check p r) ((λ i. refl) and (λ i. refl) and (λ i. refl) and (λ i. refl) and (λ i. refl) and (λ i. refl) and all)) refl)
 

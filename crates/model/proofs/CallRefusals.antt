@@ -10,7 +10,7 @@ use mathlib.Core.Bool.{Bool, true, false}
 use lib.ListN.{length}
 use lib.Dec.{ltb}
 use borrow.Author.Tests.{le-ltb, ltb-true, ltb-false}
-use Rattle.std.specs.Prelude.{if◌then◌else◌}
+use Rattle.std.specs.Prelude.{if◌then◌else◌, Option, Some, None}
 use Rattle.model.specs.Blocks.{T, call_place, default_place}
 use Rattle.model.specs.Tables.{matches, hit, part_of, part_words}
 use Rattle.model.specs.Runs.{Outcome, pipeline_run}
@@ -19,7 +19,6 @@ use Rattle.model.specs.Answers.{Answer, done, refused, after, told}
 use Rattle.model.specs.Refusals.{Row, judge, counts_well, check_rows, evaluate_rows, late_row}
 use Rattle.model.specs.Calls.{written, unless_refused, lookup, end_values, ended, fails_whole, load, check, run, confirm, passify, condition, evaluate, extract, start_rows, run_rows, Ended}
 use Rattle.model.specs.Demands.{Exact, ExactOnRun, Kept, Clear, First, Applies, OneAnswer, Demand1}
-use Rattle.model.specs.declared.Hit.{Hit}
 use Rattle.model.specs.declared.Part.{Part}
 use Rattle.model.proofs.Refusals.{judge-exact, clear, clear_judge}
 use Rattle.model.proofs.Hits.{hit-below, rule_there, default_there, part_there}
@@ -115,9 +114,9 @@ unless_empty (refused number place) = refl
 hit-words : (p r packet : List ℕ) (t : ℕ) → counts_well p r ≡ true → t < T p → part_words p r (part_of p r t (hit p r packet t)) ≡ [] → ⊥
 hit-words p r packet t c h e = go (hit p r packet t) refl e
   where
-    go : (x : Hit) → hit p r packet t ≡ x → part_words p r (part_of p r t x) ≡ [] → ⊥
-    go (Hit.Rule i) k = part_there r (call_place r i) (rule_there r i (hit-below (matches p r packet) r t i k))
-    go Hit.Default k = part_there p (default_place p t) (default_there p r t c h)
+    go : (x : Option ℕ) → hit p r packet t ≡ x → part_words p r (part_of p r t x) ≡ [] → ⊥
+    go (Some i) k = part_there r (call_place r i) (rule_there r i (hit-below (matches p r packet) r t i k))
+    go None k = part_there p (default_place p t) (default_there p r t c h)
 
 -- Lookup's part is empty exactly when check or packet is refused, or there is no such table
 lookup-exact : (p r packet : List ℕ) (t : ℕ)

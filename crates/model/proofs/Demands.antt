@@ -8,6 +8,7 @@ use mathlib.Core.List.{List, [], ◌∷◌}
 use lib.Dec.{eqb}
 use lib.ListN.{length}
 use borrow.Author.Tests.{eqb-true, not-false}
+use Rattle.std.specs.Prelude.{Result, Ok}
 use Rattle.model.specs.Trees.{bits_in}
 use Rattle.model.specs.Good.{Within}
 use Rattle.model.specs.Runs.{State, Outcome, packet_widths, pipeline_run}
@@ -21,7 +22,7 @@ use Rattle.model.specs.Calls.{written, end_values, end_packet, ended, fails_whol
 use Rattle.model.specs.Demands.{Ends, Falsifies, FailsWith, Accepted, Small, form_words, condition_words, Falsifiable, CanFail, Demand2, Demand3, NotConstant, variable_widths}
 use Rattle.model.specs.Examples.{both_false}
 use Rattle.model.specs.declared.Ran.{Ran}
-use Rattle.model.specs.declared.Confirmed.{Confirmed}
+use Rattle.model.specs.declared.Refusal.{Refusal}
 use Rattle.model.proofs.Compute.{compute}
 use Rattle.model.proofs.Every.{All}
 use Rattle.model.proofs.GoodForms.{AllWidths, GoodPassive}
@@ -38,11 +39,11 @@ use Rattle.model.proofs.WordsFit.{form-fits, condition-fits}
 use Rattle.model.proofs.CallsGive.{run_gives, confirm_gives, confirm-yes, passify_gives, extract_gives}
 
 -- what says how the run ends is that ending, and the end area is as that ending leaves it
-ends : (o : Outcome) (a : Ran) (end end' : List ℕ) → said.ran a ≡ told end_values (ended o)
+ends : (o : Outcome) (a : Result Ran Refusal) (end end' : List ℕ) → said.ran a ≡ told end_values (ended o)
     → end' ≡ written (ended o) end_packet end → Ends o a end end'
-ends (Outcome.passed s) a end end' e w = (one_said speaks_ran a (Ran.Passed s.used) _ e refl, w)
-ends (Outcome.blocked n s) a end end' e w = (one_said speaks_ran a (Ran.Blocked n s.used) _ e refl, w)
-ends (Outcome.failed n s) a end end' e w = (one_said speaks_ran a (Ran.Failed n s.used) _ e refl, w)
+ends (Outcome.passed s) a end end' e w = (one_said speaks_ran a (Ok (Ran.Passed s.used)) _ e refl, w)
+ends (Outcome.blocked n s) a end end' e w = (one_said speaks_ran a (Ok (Ran.Blocked n s.used)) _ e refl, w)
+ends (Outcome.failed n s) a end end' e w = (one_said speaks_ran a (Ok (Ran.Failed n s.used)) _ e refl, w)
 ends (Outcome.refused number place) a end end' e w = (e, w)
 
 -- where Confirm's answer is yes, the run has failed and no entry is left over
@@ -64,7 +65,7 @@ demand2 = record {
       ends (pipeline_run p r packet choices) a end end' (rw e at runs.answers) (rw e at runs.end_area);
   confirm = λ p r packet choices a accepted within confirms. (
     λ yes. yes_fails (pipeline_run p r packet choices) choices (rw (yes, confirm_gives p r accepted packet choices within) at confirms.answers),
-    λ f. one_said speaks_confirmed a Confirmed.Yes _ (rw (confirm-yes p r accepted packet choices within f) at confirms.answers) refl,
+    λ f. one_said speaks_confirmed a (Ok true) _ (rw (confirm-yes p r accepted packet choices within f) at confirms.answers) refl,
   );
 }
 

@@ -6,27 +6,26 @@ use mathlib.Core.Bool.{Bool, true, false}
 use mathlib.Core.List.{List, [], ◌∷◌}
 use lib.ListN.{length}
 use lib.Seq.{drop-cons}
-use Rattle.std.specs.Prelude.{if◌then◌else◌}
+use Rattle.std.specs.Prelude.{if◌then◌else◌, Some}
 use Rattle.model.specs.Lists.{part}
 use Rattle.model.specs.Blocks.{T, R, call_place, default_place}
 use Rattle.model.specs.Tables.{tried, first_that}
 use Rattle.model.specs.Refusals.{counts_well}
-use Rattle.model.specs.declared.Hit.{Hit}
 use Rattle.model.proofs.Every.{All}
 use Rattle.model.proofs.Accepted.{counts, OfTable, tried-below}
 
 -- what is found in a list has the property
-pub first-has : (P : ℕ → Type 0) (test : ℕ → Bool) (xs : List ℕ) (i : ℕ) → All P xs → first_that test xs ≡ Hit.Rule i → P i
+pub first-has : (P : ℕ → Type 0) (test : ℕ → Bool) (xs : List ℕ) (i : ℕ) → All P xs → first_that test xs ≡ Some i → P i
 unfolding first_that
 first-has P test [] i h e = let z : ◌≡◌ {A = ℕ} 0 1 = cc in absurd (omega arith)
 first-has P test (x ∷ xs) i h e = go (test x) e (first-has P test xs i h.1)
   where
-    go : (b : Bool) → (if b then Hit.Rule x else first_that test xs) ≡ Hit.Rule i → (first_that test xs ≡ Hit.Rule i → P i) → P i
+    go : (b : Bool) → (if b then Some x else first_that test xs) ≡ Some i → (first_that test xs ≡ Some i → P i) → P i
     go true k rest = let z : x ≡ i = cc in rw (← z) h.0
     go false k rest = rest k
 
 -- a rule that hits is one of the block's
-pub hit-below : (test : ℕ → Bool) (r : List ℕ) (t i : ℕ) → first_that test (tried r t) ≡ Hit.Rule i → i < R r
+pub hit-below : (test : ℕ → Bool) (r : List ℕ) (t i : ℕ) → first_that test (tried r t) ≡ Some i → i < R r
 hit-below test r t i e = (first-has (OfTable r t) test (tried r t) i (tried-below r t) e).0
 
 pub rule_there : (r : List ℕ) (i : ℕ) → i < R r → call_place r i < length r

@@ -3,7 +3,7 @@ use Prim.Native.Nat.{ℕ, ◌+◌, ◌<◌, ◌≤◌}
 use native.Mathlib.Omega.{arith}
 use mathlib.Core.Path.{◌≡◌, sym, ◌∙◌}
 use mathlib.Core.Bool.{Bool, true, false}
-use mathlib.Core.Option.{none}
+use Rattle.std.specs.Prelude.{None}
 use Rattle.model.specs.Lists.{first_not, first_place}
 use Rattle.model.specs.Refusals.{Row}
 use Rattle.model.proofs.First.{first-none, first_more, first_stop, first_end}
@@ -11,7 +11,7 @@ use Rattle.model.proofs.First.{first-none, first_more, first_stop, first_end}
 pub record Searched (row : Row) (count i : ℕ) : Type 0 where
   pub whole : count ≡ row.count
   pub within : i ≤ count
-  pub well : first_not row.well i ≡ none
+  pub well : first_not row.well i ≡ None
 
 module _ (row : Row) (count : ℕ) where
   pub begins : count ≡ row.count → Searched row count 0

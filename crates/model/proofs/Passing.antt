@@ -5,12 +5,12 @@ use native.Mathlib.Omega.{arith}
 use mathlib.Core.Path.{◌≡◌, refl, sym, ap, ◌∙◌}
 use mathlib.Core.Bool.{Bool, true, false, false≢true}
 use mathlib.Core.List.{List, [], ◌++◌}
+use Rattle.std.specs.Prelude.{Ok, Err}
 use Rattle.model.specs.Answers.{Answer, done, refused, after, told, refusal_of}
 use Rattle.model.specs.Refusals.{Row, judge, check_rows}
 use Rattle.model.specs.Calls.{check, Checks}
 use Rattle.model.specs.Demands.{Accepted}
 use Rattle.model.specs.declared.Refusal.{Refusal}
-use Rattle.model.specs.declared.Checked.{Checked}
 use Rattle.model.proofs.First.{judge-append}
 use Rattle.model.proofs.Answers.{back, refusal_back}
 
@@ -48,9 +48,9 @@ pub told-after : (x : Refusal) (answer : Answer (Unit {0})) → refusal_of x ≡
 told-after x answer e values next = let h = told_refuses x answer e in rw h.gives h.names
 
 module _ (p r : List ℕ) where
-  pub check_accepts : Checks p r Checked.Accepted → Accepted p r
+  pub check_accepts : Checks p r (Ok tt) → Accepted p r
   check_accepts h = told-done (check p r) h.answers
 
-  pub check_refuses : (x : Refusal) → Checks p r (Checked.Refused x) → Refuses x (judge (check_rows p r))
+  pub check_refuses : (x : Refusal) → Checks p r (Err x) → Refuses x (judge (check_rows p r))
   unfolding check
   check_refuses x h = told_refuses x (judge (check_rows p r)) h.answers

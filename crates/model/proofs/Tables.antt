@@ -5,7 +5,7 @@ use mathlib.Core.Path.{◌≡◌, refl}
 use mathlib.Core.Bool.{Bool, true, false}
 use mathlib.Core.List.{List, [], ◌∷◌}
 use Rattle.bits.specs.Width as bits
-use Rattle.std.specs.Prelude.{if◌then◌else◌}
+use Rattle.std.specs.Prelude.{if◌then◌else◌, Some, None}
 use Rattle.model.specs.Lists.{every, word}
 use Rattle.model.specs.Blocks.{T, Call, widths, key_count, key, table_of, value, mask}
 use Rattle.model.specs.Trees.{truth_of, bits_in, program, called}
@@ -15,7 +15,6 @@ use Rattle.model.specs.Runs as runs
 use Rattle.model.specs.Runs.{State, run, run_table}
 use Rattle.model.specs.Passive as passive
 use Rattle.model.specs.Passive.{Vars, Form, JoinRule, passify, key_tests, matching, body_form, chain_form, table_form}
-use Rattle.model.specs.declared.Hit.{Hit}
 use Rattle.model.proofs.Every.{All}
 use Rattle.model.proofs.Accepted.{WellFormed, OfTable, tried-below}
 use Rattle.model.proofs.Joins.{JoinLaws}
@@ -53,18 +52,18 @@ module _ (p r : List ℕ) (w : WellFormed p r) (rule : JoinRule) (laws : JoinLaw
 
     exact-rules : (is : List ℕ) → All (OfTable r t) is → Exactly (first_of is) (chain_form p r rule t is)
     unfolding first_that chain_form
-    exact-rules [] h = exact-body (call_of p r t Hit.Default) (w.default_good t there)
+    exact-rules [] h = exact-body (call_of p r t None) (w.default_good t there)
     exact-rules (i ∷ is) h =
         exact_same (widths p) w.widths_good (whether (λ packet. matches p r packet i) here (first_of is)) (first_of (i ∷ is))
         (chain_form p r rule t (i ∷ is)) (λ s. go s (matches p r s.packet i))
-        (exact_chain (widths p) w.widths_good rule laws here (first_of is) (body_form p r rule (call_of p r t (Hit.Rule i))) (chain_form p r rule t is)
-        (exact-body (call_of p r t (Hit.Rule i)) (w.rule_good i h.0.0 t)) (exact-rules is h.1)
+        (exact_chain (widths p) w.widths_good rule laws here (first_of is) (body_form p r rule (call_of p r t (Some i))) (chain_form p r rule t is)
+        (exact-body (call_of p r t (Some i)) (w.rule_good i h.0.0 t)) (exact-rules is h.1)
         (λ packet. matches p r packet i) (matching p r i) (w.matching_good i h.0.0) (λ packet. rule-matches p r packet i))
       where
         here : Run
-        here = acts (call_of p r t (Hit.Rule i))
+        here = acts (call_of p r t (Some i))
 
-        go : (s : State) (b : Bool) → acts (call_of p r t (if b then Hit.Rule i else first_that (matches p r s.packet) is)) s ≡ (if b then here s else first_of is s)
+        go : (s : State) (b : Bool) → acts (call_of p r t (if b then Some i else first_that (matches p r s.packet) is)) s ≡ (if b then here s else first_of is s)
         go s true = refl
         go s false = refl
 

@@ -1,16 +1,11 @@
 -- Document 01, "Numbers a call can answer": an answer is a success with its values, or a number and a place.
 -- For each enum a definition gives the number and the values of every case. Assumes nothing: these are definitions.
-use Rattle.std.specs.Prelude.{ℕ, Bool, true, false, List, [], ◌∷◌}
+use Rattle.std.specs.Prelude.{ℕ, Bool, true, false, List, [], ◌∷◌, Result, Ok, Err}
 use Rattle.model.specs.declared.Refusal.{Refusal}
-use Rattle.model.specs.declared.Loaded.{Loaded}
-use Rattle.model.specs.declared.Checked.{Checked}
+use Rattle.model.specs.declared.Blocks.{Blocks}
+use Rattle.model.specs.declared.Form.{Form}
 use Rattle.model.specs.declared.Part.{Part}
 use Rattle.model.specs.declared.Ran.{Ran}
-use Rattle.model.specs.declared.Confirmed.{Confirmed}
-use Rattle.model.specs.declared.Passified.{Passified}
-use Rattle.model.specs.declared.Built.{Built}
-use Rattle.model.specs.declared.Evaluated.{Evaluated}
-use Rattle.model.specs.declared.Extracted.{Extracted}
 
 pub data Answer (A : Type 0) : Type 0 where
   done : A → Answer A
@@ -55,55 +50,68 @@ abbrev pub values_in : Answer (List ℕ) → List ℕ
 values_in (done values) = values
 values_in (refused number place) = place ∷ []
 
--- Load gives the two blocks' lengths
-abbrev pub loaded : Loaded → Answer (List ℕ)
-loaded (Loaded.Blocks pipeline rules) = done (pipeline ∷ rules ∷ [])
-loaded (Loaded.Refused r) = refusal_of r
+-- a call's answer: a success by its values, or the refusal
+abbrev pub answered : {A : Type 0} → (A → List ℕ) → Result A Refusal → Answer (List ℕ)
+answered values (Ok x) = done (values x)
+answered values (Err r) = refusal_of r
 
-abbrev pub checked : Checked → Answer (List ℕ)
-checked Checked.Accepted = done []
-checked (Checked.Refused r) = refusal_of r
+-- Load gives the two blocks' lengths
+abbrev pub lengths : Blocks → List ℕ
+lengths b = b.pipeline ∷ b.rules ∷ []
+
+abbrev pub loaded : Result Blocks Refusal → Answer (List ℕ)
+loaded = answered lengths
+
+-- Check gives nothing
+abbrev pub nothing : Unit {0} → List ℕ
+nothing _ = []
+
+abbrev pub checked : Result (Unit {0}) Refusal → Answer (List ℕ)
+checked = answered nothing
 
 -- Lookup gives its part: 0 for the empty one, 1 for the rules and 2 for the pipeline with the place of its first word
+abbrev pub part_place : Part → List ℕ
+part_place Part.Empty = 0 ∷ []
+part_place (Part.Rules at) = 1 ∷ at ∷ []
+part_place (Part.Pipeline at) = 2 ∷ at ∷ []
+
 abbrev pub looked_up : Part → Answer (List ℕ)
-looked_up Part.Empty = done (0 ∷ [])
-looked_up (Part.Rules at) = done (1 ∷ at ∷ [])
-looked_up (Part.Pipeline at) = done (2 ∷ at ∷ [])
+looked_up part = done (part_place part)
 
 -- Run gives 0 for passed, 1 for blocked, 2 for failed; the node; the entries used
-abbrev pub ran : Ran → Answer (List ℕ)
-ran (Ran.Passed used) = done (0 ∷ 0 ∷ used ∷ [])
-ran (Ran.Blocked node used) = done (1 ∷ node ∷ used ∷ [])
-ran (Ran.Failed node used) = done (2 ∷ node ∷ used ∷ [])
-ran (Ran.Refused r) = refusal_of r
+abbrev pub ending : Ran → List ℕ
+ending (Ran.Passed used) = 0 ∷ 0 ∷ used ∷ []
+ending (Ran.Blocked node used) = 1 ∷ node ∷ used ∷ []
+ending (Ran.Failed node used) = 2 ∷ node ∷ used ∷ []
 
--- 1 for yes and for true, 0 for no and for false
+abbrev pub ran : Result Ran Refusal → Answer (List ℕ)
+ran = answered ending
+
+-- Confirm and Evaluate give 1 for yes and for true, 0 for no and for false
 abbrev pub yes_or_no : Bool → List ℕ
 yes_or_no true = 1 ∷ []
 yes_or_no false = 0 ∷ []
 
-abbrev pub confirmed : Confirmed → Answer (List ℕ)
-confirmed Confirmed.Yes = done (yes_or_no true)
-confirmed Confirmed.No = done (yes_or_no false)
-confirmed (Confirmed.Refused r) = refusal_of r
+abbrev pub confirmed : Result Bool Refusal → Answer (List ℕ)
+confirmed = answered yes_or_no
 
 -- Passify gives n and V
-abbrev pub passified : Passified → Answer (List ℕ)
-passified (Passified.Form nodes variables) = done (nodes ∷ variables ∷ [])
-passified (Passified.Refused r) = refusal_of r
+abbrev pub sizes : Form → List ℕ
+sizes f = f.nodes ∷ f.variables ∷ []
 
--- Condition gives its entry count
-abbrev pub built : Built → Answer (List ℕ)
-built (Built.Entries count) = done (count ∷ [])
-built (Built.Refused r) = refusal_of r
+abbrev pub passified : Result Form Refusal → Answer (List ℕ)
+passified = answered sizes
+
+-- Condition gives its entry count, Extract the number of choices
+abbrev pub count : ℕ → List ℕ
+count n = n ∷ []
+
+abbrev pub built : Result ℕ Refusal → Answer (List ℕ)
+built = answered count
 
 -- Evaluate gives the last entry's truth
-abbrev pub evaluated : Evaluated → Answer (List ℕ)
-evaluated Evaluated.True = done (yes_or_no true)
-evaluated Evaluated.False = done (yes_or_no false)
-evaluated (Evaluated.Refused r) = refusal_of r
+abbrev pub evaluated : Result Bool Refusal → Answer (List ℕ)
+evaluated = answered yes_or_no
 
--- Extract gives the number of choices
-abbrev pub extracted : Extracted → Answer (List ℕ)
-extracted (Extracted.Choices count) = done (count ∷ [])
-extracted (Extracted.Refused r) = refusal_of r
+abbrev pub extracted : Result ℕ Refusal → Answer (List ℕ)
+extracted = answered count

@@ -1,6 +1,6 @@
 -- The nine calls: what each answers, and what each area holds afterwards, for all inputs. An area that is lent is given by its words
 -- before the call. Assumes nothing: these are definitions.
-use Rattle.std.specs.Prelude.{ℕ, ◌+◌, ◌*◌, ◌≡◌, Bool, true, false, not, ◌&&◌, List, [], ◌∷◌, ◌++◌, eqb, ltb, leb, length, drop, replicate, if◌then◌else◌}
+use Rattle.std.specs.Prelude.{ℕ, ◌+◌, ◌*◌, ◌≡◌, Bool, true, false, not, ◌&&◌, List, [], ◌∷◌, ◌++◌, eqb, ltb, leb, length, drop, replicate, if◌then◌else◌, Result}
 use Rattle.std.specs.Borrow.{Bor}
 use Rattle.model.specs.Blocks.{F, T, words}
 use Rattle.model.specs.Files.{Held, whole, fault, held, pipeline_of, rules_of}
@@ -16,14 +16,10 @@ use Rattle.model.specs.Refusals.{Row, judge, once, room, check_rows, packet_rows
 use Rattle.model.specs.declared.Bits.{Bits}
 use Rattle.model.specs.declared.Node.{Node}
 use Rattle.model.specs.declared.Part.{Part}
-use Rattle.model.specs.declared.Loaded.{Loaded}
-use Rattle.model.specs.declared.Checked.{Checked}
+use Rattle.model.specs.declared.Blocks.{Blocks}
 use Rattle.model.specs.declared.Ran.{Ran}
-use Rattle.model.specs.declared.Confirmed.{Confirmed}
-use Rattle.model.specs.declared.Passified.{Passified}
-use Rattle.model.specs.declared.Built.{Built}
-use Rattle.model.specs.declared.Evaluated.{Evaluated}
-use Rattle.model.specs.declared.Extracted.{Extracted}
+use Rattle.model.specs.declared.Form.{Form}
+use Rattle.model.specs.declared.Refusal.{Refusal}
 
 -- an area after a call that writes some words at its start: a refusal changes nothing, and words past the need stay
 abbrev pub over : List ℕ → List ℕ → List ℕ
@@ -65,7 +61,7 @@ load file pipeline_room rule_room = after (judge (load_rows file pipeline_room r
 abbrev pub block_lengths : TwoBlocks → List ℕ
 block_lengths b = length b.pipeline ∷ length b.rules ∷ []
 
-pub record Loads (file pipeline rules : List ℕ) (answer : Loaded) (pipeline' rules' : List ℕ) : Type 0 where
+pub record Loads (file pipeline rules : List ℕ) (answer : Result Blocks Refusal) (pipeline' rules' : List ℕ) : Type 0 where
   pub answers : said.loaded answer ≡ told block_lengths (load file (length pipeline) (length rules))
   pub pipeline_area : pipeline' ≡ written (load file (length pipeline) (length rules)) (λ b. b.pipeline) pipeline
   pub rules_area : rules' ≡ written (load file (length pipeline) (length rules)) (λ b. b.rules) rules
@@ -74,7 +70,7 @@ pub record Loads (file pipeline rules : List ℕ) (answer : Loaded) (pipeline' r
 unfoldable pub check : List ℕ → List ℕ → Answer (Unit {0})
 check p r = judge (check_rows p r)
 
-pub record Checks (p r : List ℕ) (answer : Checked) : Type 0 where
+pub record Checks (p r : List ℕ) (answer : Result (Unit {0}) Refusal) : Type 0 where
   pub answers : said.checked answer ≡ told (λ _. []) (check p r)
 
 -- LOOKUP: an empty part when check or packet is refused or the table number isn't below T, else the part of what hits
@@ -131,11 +127,11 @@ unfoldable pub run : List ℕ → List ℕ → List ℕ → List ℕ → ℕ →
 run p r packet choices end_room = after (judge (run_rows p r packet end_room)) (λ _. ended (pipeline_run p r packet choices))
 
 -- an ending, or a refusal, is answered, and the end area is left so
-pub record Tells (ending : Answer Ended) (end : List ℕ) (answer : Ran) (end' : List ℕ) : Type 0 where
+pub record Tells (ending : Answer Ended) (end : List ℕ) (answer : Result Ran Refusal) (end' : List ℕ) : Type 0 where
   pub answers : said.ran answer ≡ told end_values ending
   pub end_area : end' ≡ written ending end_packet end
 
-abbrev pub Runs : List ℕ → List ℕ → List ℕ → List ℕ → List ℕ → Ran → List ℕ → Type 0
+abbrev pub Runs : List ℕ → List ℕ → List ℕ → List ℕ → List ℕ → Result Ran Refusal → List ℕ → Type 0
 Runs p r packet choices end = Tells (run p r packet choices (length end)) end
 
 -- CONFIRM: as Run, without 12. Yes exactly when the run fails and uses its whole choice list
@@ -146,7 +142,7 @@ unfoldable pub confirm : List ℕ → List ℕ → List ℕ → List ℕ → Ans
 confirm p r packet choices =
     after (judge (start_rows p r packet)) (λ _. after (ended (pipeline_run p r packet choices)) (λ e. done (fails_whole choices e)))
 
-pub record Confirms (p r packet choices : List ℕ) (answer : Confirmed) : Type 0 where
+pub record Confirms (p r packet choices : List ℕ) (answer : Result Bool Refusal) : Type 0 where
   pub answers : said.confirmed answer ≡ told yes_or_no (confirm p r packet choices)
 
 -- PASSIFY: 2 to 10, 12 if too large, 12 (nodes, then widths)
@@ -165,7 +161,7 @@ passify p r node_room width_room = after (judge (passify_rows p r node_room widt
 abbrev pub form_sizes : Emitted → List ℕ
 form_sizes w = length w.nodes ∷ length w.widths ∷ []
 
-pub record Passifies (p r nodes widths : List ℕ) (answer : Passified) (nodes' widths' : List ℕ) : Type 0 where
+pub record Passifies (p r nodes widths : List ℕ) (answer : Result Form Refusal) (nodes' widths' : List ℕ) : Type 0 where
   pub answers : said.passified answer ≡ told form_sizes (passify p r (length nodes) (length widths))
   pub nodes_area : nodes' ≡ written (passify p r (length nodes) (length widths)) (λ w. words w.nodes) nodes
   pub widths_area : widths' ≡ written (passify p r (length nodes) (length widths)) (λ w. w.widths) widths
@@ -174,7 +170,7 @@ pub record Passifies (p r nodes widths : List ℕ) (answer : Passified) (nodes' 
 unfoldable pub condition : List ℕ → List ℕ → ℕ → Answer (List Node)
 condition nodes ws lent = after (judge (condition_rows nodes ws lent)) (λ _. done (condition_of nodes))
 
-pub record Builds (nodes ws entries : List ℕ) (answer : Built) (entries' : List ℕ) : Type 0 where
+pub record Builds (nodes ws entries : List ℕ) (answer : Result ℕ Refusal) (entries' : List ℕ) : Type 0 where
   pub answers : said.built answer ≡ told (λ es. length es ∷ []) (condition nodes ws (length entries))
   pub entries_area : entries' ≡ written (condition nodes ws (length entries)) words entries
 
@@ -192,7 +188,7 @@ scratch_after entries ws valuation scratch =
     let answer = evaluate entries ws valuation (length scratch) in
     written (judge (evaluate_rows entries ws valuation (length scratch))) (λ _. scratch_words entries answer) scratch
 
-pub record Evaluates (entries ws valuation scratch : List ℕ) (answer : Evaluated) (scratch' : List ℕ) : Type 0 where
+pub record Evaluates (entries ws valuation scratch : List ℕ) (answer : Result Bool Refusal) (scratch' : List ℕ) : Type 0 where
   pub answers : said.evaluated answer ≡ told (λ xs. yes_or_no (last_truth xs)) (evaluate entries ws valuation (length scratch))
   pub scratch_area : scratch' ≡ scratch_after entries ws valuation scratch
 
@@ -220,7 +216,7 @@ unfoldable pub extract : List ℕ → List ℕ → List ℕ → ℕ → ℕ → 
 extract p r valuation packet_room choice_room =
     after (judge (extract_rows p r valuation packet_room choice_room)) (λ _. done (witness p r valuation))
 
-pub record Extracts (p r valuation packet choices : List ℕ) (answer : Extracted) (packet' choices' : List ℕ) : Type 0 where
+pub record Extracts (p r valuation packet choices : List ℕ) (answer : Result ℕ Refusal) (packet' choices' : List ℕ) : Type 0 where
   pub answers : said.extracted answer ≡ told (λ w. length w.choices ∷ []) (extract p r valuation (length packet) (length choices))
   pub packet_area : packet' ≡ written (extract p r valuation (length packet) (length choices)) (λ w. w.packet) packet
   pub choices_area : choices' ≡ written (extract p r valuation (length packet) (length choices)) (λ w. w.choices) choices

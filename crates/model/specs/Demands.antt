@@ -1,7 +1,7 @@
 -- Document 01, "What a call owes its caller", and the three demands on the product, each as one statement over the definitions that
 -- the calls' contracts cite. The proofs stand elsewhere. p is a pipeline block and r a rule block, as words; a name with a prime is an
 -- area after the call. Assumes nothing: these are definitions.
-use Rattle.std.specs.Prelude.{ℕ, ◌*◌, ◌≤◌, ◌<◌, ◌≡◌, ◌↔◌, ◌⊎◌, true, false, List, [], ◌∷◌, ◌++◌, length, replicate}
+use Rattle.std.specs.Prelude.{ℕ, ◌*◌, ◌≤◌, ◌<◌, ◌≡◌, ◌↔◌, ◌⊎◌, true, false, List, [], ◌∷◌, ◌++◌, length, replicate, Result, Ok, Bool}
 use Rattle.std.specs.Borrow.{Bor}
 use Rattle.model.specs.Blocks.{F, T, words}
 use Rattle.model.specs.Good.{Within}
@@ -13,14 +13,10 @@ use Rattle.model.specs.Answers as said
 use Rattle.model.specs.Answers.{Answer, done, refused, told, yes_or_no}
 use Rattle.model.specs.Refusals.{Row, check_rows, condition_rows, evaluate_rows, late_row}
 use Rattle.model.specs.Calls.{over, check, confirm, passify, condition, evaluate, extract, witness, condition_truth, load_rows, start_rows, run_rows, passify_rows, extract_rows, Loads, Checks, LooksUp, Runs, Confirms, Passifies, Builds, Evaluates, Extracts}
-use Rattle.model.specs.declared.Loaded.{Loaded}
-use Rattle.model.specs.declared.Checked.{Checked}
+use Rattle.model.specs.declared.Blocks.{Blocks}
 use Rattle.model.specs.declared.Ran.{Ran}
-use Rattle.model.specs.declared.Confirmed.{Confirmed}
-use Rattle.model.specs.declared.Passified.{Passified}
-use Rattle.model.specs.declared.Built.{Built}
-use Rattle.model.specs.declared.Evaluated.{Evaluated}
-use Rattle.model.specs.declared.Extracted.{Extracted}
+use Rattle.model.specs.declared.Form.{Form}
+use Rattle.model.specs.declared.Refusal.{Refusal}
 
 -- DEMAND 1. Every call answers every input, in one way only; its refusals are exact, and a refused call changes no lent area but the
 -- evaluator's scratch.
@@ -35,17 +31,17 @@ SamePart x y = (x.now ≡ y.now) × ((x.now ≡ []) ⊎ (x.ref_ptr ≡ y.ref_ptr
 
 -- for every input there is an answer, with the areas after it, that meets the call's promise, and no other
 pub record OneAnswer : Type 0 where
-  pub load : (file pipeline rules : List ℕ) → One (λ (x : Loaded × List ℕ × List ℕ). Loads file pipeline rules x.0 x.1 x.2)
+  pub load : (file pipeline rules : List ℕ) → One (λ (x : Result Blocks Refusal × List ℕ × List ℕ). Loads file pipeline rules x.0 x.1 x.2)
   pub check : (p r : List ℕ) → One (Checks p r)
   pub lookup : (p r : Bor (List ℕ)) (packet : List ℕ) (t : ℕ) → ((x : Bor (List ℕ)) × LooksUp p r packet t x)
       × ((x y : Bor (List ℕ)) → LooksUp p r packet t x → LooksUp p r packet t y → SamePart x y)
-  pub run : (p r packet choices end : List ℕ) → One (λ (x : Ran × List ℕ). Runs p r packet choices end x.0 x.1)
+  pub run : (p r packet choices end : List ℕ) → One (λ (x : Result Ran Refusal × List ℕ). Runs p r packet choices end x.0 x.1)
   pub confirm : (p r packet choices : List ℕ) → One (Confirms p r packet choices)
-  pub passify : (p r nodes widths : List ℕ) → One (λ (x : Passified × List ℕ × List ℕ). Passifies p r nodes widths x.0 x.1 x.2)
-  pub condition : (nodes widths entries : List ℕ) → One (λ (x : Built × List ℕ). Builds nodes widths entries x.0 x.1)
-  pub evaluate : (entries widths valuation scratch : List ℕ) → One (λ (x : Evaluated × List ℕ). Evaluates entries widths valuation scratch x.0 x.1)
+  pub passify : (p r nodes widths : List ℕ) → One (λ (x : Result Form Refusal × List ℕ × List ℕ). Passifies p r nodes widths x.0 x.1 x.2)
+  pub condition : (nodes widths entries : List ℕ) → One (λ (x : Result ℕ Refusal × List ℕ). Builds nodes widths entries x.0 x.1)
+  pub evaluate : (entries widths valuation scratch : List ℕ) → One (λ (x : Result Bool Refusal × List ℕ). Evaluates entries widths valuation scratch x.0 x.1)
   pub extract : (p r valuation packet choices : List ℕ)
-      → One (λ (x : Extracted × List ℕ × List ℕ). Extracts p r valuation packet choices x.0 x.1 x.2)
+      → One (λ (x : Result ℕ Refusal × List ℕ × List ℕ). Extracts p r valuation packet choices x.0 x.1 x.2)
 
 -- a row applies at none of its places before i
 abbrev pub WellBefore : Row → ℕ → Type 0
@@ -79,27 +75,27 @@ Kept answer area area' = (n q : ℕ) → answer ≡ refused n q → area' ≡ ar
 
 pub record Demand1 : Type 0 where
   pub one : OneAnswer
-  pub load : (file pipeline rules : List ℕ) (a : Loaded) (pipeline' rules' : List ℕ) → Loads file pipeline rules a pipeline' rules'
+  pub load : (file pipeline rules : List ℕ) (a : Result Blocks Refusal) (pipeline' rules' : List ℕ) → Loads file pipeline rules a pipeline' rules'
       → Exact (load_rows file (length pipeline) (length rules)) (said.loaded a)
       × Kept (said.loaded a) pipeline pipeline' × Kept (said.loaded a) rules rules'
-  pub check : (p r : List ℕ) (a : Checked) → Checks p r a → Exact (check_rows p r) (said.checked a)
+  pub check : (p r : List ℕ) (a : Result (Unit {0}) Refusal) → Checks p r a → Exact (check_rows p r) (said.checked a)
   pub lookup : (p r : Bor (List ℕ)) (packet : List ℕ) (t : ℕ) (part : Bor (List ℕ)) → LooksUp p r packet t part
       → (part.now ≡ []) ↔ (((n : ℕ) × (q : ℕ) × First (start_rows p.now r.now packet) n q) ⊎ (T p.now ≤ t))
-  pub run : (p r packet choices end : List ℕ) (a : Ran) (end' : List ℕ) → Runs p r packet choices end a end'
+  pub run : (p r packet choices end : List ℕ) (a : Result Ran Refusal) (end' : List ℕ) → Runs p r packet choices end a end'
       → ExactOnRun (run_rows p r packet (length end)) (pipeline_run p r packet choices) (said.ran a) × Kept (said.ran a) end end'
-  pub confirm : (p r packet choices : List ℕ) (a : Confirmed) → Confirms p r packet choices a
+  pub confirm : (p r packet choices : List ℕ) (a : Result Bool Refusal) → Confirms p r packet choices a
       → ExactOnRun (start_rows p r packet) (pipeline_run p r packet choices) (said.confirmed a)
-  pub passify : (p r nodes widths : List ℕ) (a : Passified) (nodes' widths' : List ℕ) → Passifies p r nodes widths a nodes' widths'
+  pub passify : (p r nodes widths : List ℕ) (a : Result Form Refusal) (nodes' widths' : List ℕ) → Passifies p r nodes widths a nodes' widths'
       → Exact (passify_rows p r (length nodes) (length widths)) (said.passified a)
       × Kept (said.passified a) nodes nodes' × Kept (said.passified a) widths widths'
-  pub condition : (nodes widths entries : List ℕ) (a : Built) (entries' : List ℕ) → Builds nodes widths entries a entries'
+  pub condition : (nodes widths entries : List ℕ) (a : Result ℕ Refusal) (entries' : List ℕ) → Builds nodes widths entries a entries'
       → Exact (condition_rows nodes widths (length entries)) (said.built a) × Kept (said.built a) entries entries'
-  pub evaluate : (entries widths valuation scratch : List ℕ) (a : Evaluated) (scratch' : List ℕ) → Evaluates entries widths valuation scratch a scratch'
+  pub evaluate : (entries widths valuation scratch : List ℕ) (a : Result Bool Refusal) (scratch' : List ℕ) → Evaluates entries widths valuation scratch a scratch'
       → Exact (evaluate_rows entries widths valuation (length scratch) ++ (late_row entries widths ∷ [])) (said.evaluated a)
       × ((n q : ℕ) → First (evaluate_rows entries widths valuation (length scratch)) n q → scratch' ≡ scratch)
       × ((n q : ℕ) → Clear (evaluate_rows entries widths valuation (length scratch)) → Applies (late_row entries widths) n q
       → scratch' ≡ over (replicate (2 * node_count entries) 0) scratch)
-  pub extract : (p r valuation packet choices : List ℕ) (a : Extracted) (packet' choices' : List ℕ) → Extracts p r valuation packet choices a packet' choices'
+  pub extract : (p r valuation packet choices : List ℕ) (a : Result ℕ Refusal) (packet' choices' : List ℕ) → Extracts p r valuation packet choices a packet' choices'
       → Exact (extract_rows p r valuation (length packet) (length choices)) (said.extracted a)
       × Kept (said.extracted a) packet packet' × Kept (said.extracted a) choices choices'
 
@@ -109,10 +105,10 @@ abbrev pub Accepted : List ℕ → List ℕ → Type 0
 Accepted p r = check p r ≡ done tt
 
 -- what Run answers and leaves in the end area, by how the run ends
-abbrev pub Ends : Outcome → Ran → List ℕ → List ℕ → Type 0
-Ends (Outcome.passed s) a end end' = (a ≡ Ran.Passed s.used) × (end' ≡ over s.packet end)
-Ends (Outcome.blocked n s) a end end' = (a ≡ Ran.Blocked n s.used) × (end' ≡ over s.packet end)
-Ends (Outcome.failed n s) a end end' = (a ≡ Ran.Failed n s.used) × (end' ≡ over s.packet end)
+abbrev pub Ends : Outcome → Result Ran Refusal → List ℕ → List ℕ → Type 0
+Ends (Outcome.passed s) a end end' = (a ≡ Ok (Ran.Passed s.used)) × (end' ≡ over s.packet end)
+Ends (Outcome.blocked n s) a end end' = (a ≡ Ok (Ran.Blocked n s.used)) × (end' ≡ over s.packet end)
+Ends (Outcome.failed n s) a end end' = (a ≡ Ok (Ran.Failed n s.used)) × (end' ≡ over s.packet end)
 Ends (Outcome.refused number place) a end end' = (said.ran a ≡ refused number place) × (end' ≡ end)
 
 -- the run fails, with so many entries used
@@ -120,10 +116,10 @@ abbrev pub FailsWith : List ℕ → List ℕ → List ℕ → List ℕ → ℕ �
 FailsWith p r packet choices used = (node : ℕ) × (s : State) × (pipeline_run p r packet choices ≡ Outcome.failed node s) × (s.used ≡ used)
 
 pub record Demand2 : Type 0 where
-  pub run : (p r packet choices end : List ℕ) (a : Ran) (end' : List ℕ) → Accepted p r → Within (packet_widths p) packet → F p ≤ length end
+  pub run : (p r packet choices end : List ℕ) (a : Result Ran Refusal) (end' : List ℕ) → Accepted p r → Within (packet_widths p) packet → F p ≤ length end
       → Runs p r packet choices end a end' → Ends (pipeline_run p r packet choices) a end end'
-  pub confirm : (p r packet choices : List ℕ) (a : Confirmed) → Accepted p r → Within (packet_widths p) packet
-      → Confirms p r packet choices a → (a ≡ Confirmed.Yes) ↔ FailsWith p r packet choices (length choices)
+  pub confirm : (p r packet choices : List ℕ) (a : Result Bool Refusal) → Accepted p r → Within (packet_widths p) packet
+      → Confirms p r packet choices a → (a ≡ Ok true) ↔ FailsWith p r packet choices (length choices)
 
 -- DEMAND 3. The condition is exact, in both directions. A blocked run is no failure: it does not end failed.
 

@@ -1,7 +1,6 @@
 -- Document 01, "Blocks and records": the record file. Its bytes are looked at from the front, a record at a time.
 -- Assumes nothing: these are definitions.
-use Rattle.std.specs.Prelude.{ℕ, zero, suc, ◌+◌, ◌*◌, Bool, ◌&&◌, List, [], ◌∷◌, ◌++◌, eqb, ltb, leb, length, if◌then◌else◌}
-use Rattle.std.proofs.Math.Option.{Option, none, some}
+use Rattle.std.specs.Prelude.{ℕ, zero, suc, ◌+◌, ◌*◌, Bool, ◌&&◌, List, [], ◌∷◌, ◌++◌, eqb, ltb, leb, length, if◌then◌else◌, Option, Some, None}
 use Rattle.model.specs.Lists.{word, each}
 use Rattle.model.specs.Bytes.{big_endian}
 use Rattle.model.specs.Blocks.{size}
@@ -58,15 +57,15 @@ behind x (fault at) = fault at
 
 -- the group whose mark stands at a place, if any does
 unfoldable pub marked_by : List ℕ → ℕ → List Group → Option Group
-marked_by file at [] = none
-marked_by file at (g ∷ gs) = if marked file at g then some g else marked_by file at gs
+marked_by file at [] = None
+marked_by file at (g ∷ gs) = if marked file at g then Some g else marked_by file at gs
 
 -- What stands at a place of a file, by its mark, when the groups before `now` had their turn; `rest` says what stands behind.
 -- An unknown mark, a wrong group, a cut record: a fault at the record. Bytes after RT: at the first of them.
 -- Where a file ends without RT there is no mark: a fault at its length.
 unfoldable pub record_there : List ℕ → ℕ → ℕ → (ℕ → ℕ → Held) → Option Group → Held
-record_there file at now rest none = fault at
-record_there file at now rest (some g) =
+record_there file at now rest None = fault at
+record_there file at now rest (Some g) =
     let next = at + bytes g in
     let more = behind (record_at file at g) (rest next (turn g)) in
     if ltb (turn g) now then fault at else

@@ -1,6 +1,5 @@
 -- Small words that the other files are written in. Assumes nothing: these are definitions.
-use Rattle.std.specs.Prelude.{ℕ, zero, suc, Bool, true, false, ◌&&◌, List, [], ◌∷◌, ◌++◌, eqb, ltb, leb, get_or, take, drop, if◌then◌else◌}
-use Rattle.std.proofs.Math.Option.{Option, none, some}
+use Rattle.std.specs.Prelude.{ℕ, zero, suc, Bool, true, false, ◌&&◌, List, [], ◌∷◌, ◌++◌, eqb, ltb, leb, get_or, take, drop, if◌then◌else◌, Option, Some, None}
 
 -- low ≤ n ≤ high
 abbrev pub within : ℕ → ℕ → ℕ → Bool
@@ -32,18 +31,18 @@ exists test (suc n) = if exists test n then true else test n
 
 -- the first of two places that is there
 abbrev pub earlier : Option ℕ → Option ℕ → Option ℕ
-earlier (some i) later = some i
-earlier none later = later
+earlier (Some i) later = Some i
+earlier None later = later
 
 -- the first i below n of which the test does not hold
 unfoldable pub first_not : (ℕ → Bool) → ℕ → Option ℕ
-first_not test zero = none
-first_not test (suc n) = earlier (first_not test n) (if test n then none else some n)
+first_not test zero = None
+first_not test (suc n) = earlier (first_not test n) (if test n then None else Some n)
 
 -- the place that was found, or the count where none was
 abbrev pub or_count : ℕ → Option ℕ → ℕ
-or_count n none = n
-or_count n (some i) = i
+or_count n None = n
+or_count n (Some i) = i
 
 abbrev pub first_place : (ℕ → Bool) → ℕ → ℕ
 first_place test n = or_count n (first_not test n)

@@ -1,5 +1,5 @@
 -- Document 01, "Passive form": statements over variables, each of which has one value. Assumes nothing: these are definitions.
-use Rattle.std.specs.Prelude.{ℕ, zero, suc, true, List, [], ◌∷◌, ◌++◌, eqb, get_or, set, length, if◌then◌else◌}
+use Rattle.std.specs.Prelude.{ℕ, zero, suc, true, List, [], ◌∷◌, ◌++◌, eqb, get_or, set, length, if◌then◌else◌, Some, None}
 use Rattle.bits.specs.declared.Op.{Op}
 use Rattle.model.specs.Lists.{each}
 use Rattle.model.specs.Blocks.{F, Call, widths, width, key_count, key, table_of, value, mask}
@@ -7,7 +7,6 @@ use Rattle.model.specs.Trees.{Val, Test, Stmt, program, called}
 use Rattle.model.specs.Tables.{tried, call_of}
 use Rattle.model.specs.declared.Comparison.{Comparison}
 use Rattle.model.specs.declared.Connective.{Connective}
-use Rattle.model.specs.declared.Hit.{Hit}
 
 -- after a choice: a side's variable, and the joined one that equals it
 pub record Equation : Type 0 where
@@ -159,10 +158,10 @@ module _ (p r : List ℕ) (rule : JoinRule) where
   body_form c s = passify (widths p) rule no_apply (called p c) s
 
   unfoldable pub chain_form : ℕ → List ℕ → Vars → Form
-  chain_form t [] s = body_form (call_of p r t Hit.Default) s
+  chain_form t [] s = body_form (call_of p r t None) s
   chain_form t (i ∷ is) s =
       let m = renamed_test s.current (matching p r i) in
-      let left = body_form (call_of p r t (Hit.Rule i)) s in
+      let left = body_form (call_of p r t (Some i)) s in
       let rest = chain_form t is (beside s left.after) in
       join (widths p) rule Origin.of_chain s (Passive.assume m then left.body) left.after
       (Passive.assume (Test.not_test m) then rest.body) rest.after

@@ -1,6 +1,5 @@
 -- Document 01, "Numbers a call can answer": each call's refusals, in its order. Assumes nothing: these are definitions.
-use Rattle.std.specs.Prelude.{ℕ, suc, ◌+◌, ◌*◌, ◌%◌, Bool, true, not, ◌&&◌, List, [], ◌∷◌, ◌++◌, eqb, ltb, leb, length, get_or, if◌then◌else◌}
-use Rattle.std.proofs.Math.Option.{Option, none, some}
+use Rattle.std.specs.Prelude.{ℕ, suc, ◌+◌, ◌*◌, ◌%◌, Bool, true, not, ◌&&◌, List, [], ◌∷◌, ◌++◌, eqb, ltb, leb, length, get_or, if◌then◌else◌, Option, Some, None}
 use Rattle.bits.specs.Width.{fits, under}
 use Rattle.model.specs.Lists.{within, word, each, build, joined, every, exists, first_not, times, among}
 use Rattle.model.specs.Blocks.{F, N, A, T, R, root, size, pipeline_length, width, widths, Call, call_at, pipeline_node, plain_node, body, parameter_count, parameter_width, key_count, key, default_place, table_of, value, mask, call_place}
@@ -30,8 +29,8 @@ once number well place = record { number = number; count = 1; well = well; place
 
 -- a number is given exactly when it is the first that applies: the first row, and in it the first place
 abbrev pub given : Row → Option ℕ → Answer (Unit {0}) → Answer (Unit {0})
-given row (some i) later = refused row.number (row.place i)
-given row none later = later
+given row (Some i) later = refused row.number (row.place i)
+given row None later = later
 
 unfoldable pub judge : List Row → Answer (Unit {0})
 judge [] = done tt

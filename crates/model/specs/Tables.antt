@@ -1,10 +1,9 @@
 -- Document 01, "Runs": which rule of a table hits, and the three words that Lookup answers.
 -- Assumes nothing: these are definitions.
-use Rattle.std.specs.Prelude.{ℕ, Bool, List, [], ◌∷◌, eqb, ltb, if◌then◌else◌}
+use Rattle.std.specs.Prelude.{ℕ, Bool, List, [], ◌∷◌, eqb, ltb, if◌then◌else◌, Option, Some, None}
 use Rattle.bits.specs.Width as bits
 use Rattle.model.specs.Lists.{every, each, those, word, part}
 use Rattle.model.specs.Blocks.{R, Call, call_at, key_count, key, default_place, table_of, value, mask, call_place}
-use Rattle.model.specs.declared.Hit.{Hit}
 use Rattle.model.specs.declared.Part.{Part}
 
 -- rule i matches: at every key, the field's bits under the mask equal the rule's value
@@ -35,17 +34,17 @@ unfoldable pub tried : List ℕ → ℕ → List ℕ
 tried r t = ordered (tried_before r) (those (of_table r t) (each (λ i. i) (R r)))
 
 -- the first of those that matches; the default if none does
-unfoldable pub first_that : (ℕ → Bool) → List ℕ → Hit
-first_that test [] = Hit.Default
-first_that test (i ∷ is) = if test i then Hit.Rule i else first_that test is
+unfoldable pub first_that : (ℕ → Bool) → List ℕ → Option ℕ
+first_that test [] = None
+first_that test (i ∷ is) = if test i then Some i else first_that test is
 
-abbrev pub hit : List ℕ → List ℕ → List ℕ → ℕ → Hit
+abbrev pub hit : List ℕ → List ℕ → List ℕ → ℕ → Option ℕ
 hit p r packet t = first_that (matches p r packet) (tried r t)
 
 -- where its three words stand, action and data: a part of the rule block or of the pipeline block; the words themselves
-abbrev pub part_of : List ℕ → List ℕ → ℕ → Hit → Part
-part_of p r t (Hit.Rule i) = Part.Rules (call_place r i)
-part_of p r t Hit.Default = Part.Pipeline (default_place p t)
+abbrev pub part_of : List ℕ → List ℕ → ℕ → Option ℕ → Part
+part_of p r t (Some i) = Part.Rules (call_place r i)
+part_of p r t None = Part.Pipeline (default_place p t)
 
 abbrev pub part_words : List ℕ → List ℕ → Part → List ℕ
 part_words p r (Part.Rules at) = part r at 3
@@ -53,6 +52,6 @@ part_words p r (Part.Pipeline at) = part p at 3
 part_words p r Part.Empty = []
 
 -- what runs then: those words as an action with its data
-abbrev pub call_of : List ℕ → List ℕ → ℕ → Hit → Call
-call_of p r t (Hit.Rule i) = call_at r (call_place r i)
-call_of p r t Hit.Default = call_at p (default_place p t)
+abbrev pub call_of : List ℕ → List ℕ → ℕ → Option ℕ → Call
+call_of p r t (Some i) = call_at r (call_place r i)
+call_of p r t None = call_at p (default_place p t)

@@ -100,13 +100,6 @@ pub struct Bits {
     pub number: u32,
 }
 
-// Which rule of a table hits.
-#[derive(Clone, Copy)]
-pub enum Hit {
-    Rule(usize),
-    Default,
-}
-
 // Where Lookup's three words stand, by the place of the first in its block.
 #[derive(Clone, Copy)]
 pub enum Part {
@@ -138,54 +131,24 @@ pub enum Refusal {
     Form(usize),
 }
 
+// What Load answers: the two blocks' lengths.
 #[derive(Clone, Copy)]
-pub enum Loaded {
-    Blocks { pipeline: usize, rules: usize },
-    Refused(Refusal),
+pub struct Blocks {
+    pub pipeline: usize,
+    pub rules: usize,
 }
 
-#[derive(Clone, Copy)]
-pub enum Checked {
-    Accepted,
-    Refused(Refusal),
-}
-
+// What Run answers: how the run ends, at which node, and how many entries it used.
 #[derive(Clone, Copy)]
 pub enum Ran {
     Passed { used: usize },
     Blocked { node: usize, used: usize },
     Failed { node: usize, used: usize },
-    Refused(Refusal),
 }
 
+// What Passify answers: n and V.
 #[derive(Clone, Copy)]
-pub enum Confirmed {
-    Yes,
-    No,
-    Refused(Refusal),
-}
-
-#[derive(Clone, Copy)]
-pub enum Passified {
-    Form { nodes: usize, variables: usize },
-    Refused(Refusal),
-}
-
-#[derive(Clone, Copy)]
-pub enum Built {
-    Entries(usize),
-    Refused(Refusal),
-}
-
-#[derive(Clone, Copy)]
-pub enum Evaluated {
-    True,
-    False,
-    Refused(Refusal),
-}
-
-#[derive(Clone, Copy)]
-pub enum Extracted {
-    Choices(usize),
-    Refused(Refusal),
+pub struct Form {
+    pub nodes: usize,
+    pub variables: usize,
 }

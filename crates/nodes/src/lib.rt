@@ -4,15 +4,18 @@
 
 ghost use Rattle.std.specs.Prelude.{◌≡◌, ◌&&◌, List, ℕ, ◌+◌, ◌*◌, ◌-◌, ◌≤◌, ltb, leb, length, get_or, if◌then◌else◌};
 ghost use Rattle.bits.specs.Width.{fits};
-ghost use Rattle.model.specs.Lists.{word};
+ghost use Rattle.model.specs.Lists.{word, or_count};
+ghost use Rattle.model.specs.Condition.{node_count};
 ghost use Rattle.model.specs.Nodes.{kinds, kind_in, pipeline_only, allowed, kind_of, are, roles, zero_in, unused_zero, width_of, is_test, is_statement, is_formed, is_width, is_value, alike, only, sort_by, sort_of};
-ghost use Rattle.nodes.specs.Codes.{sort_from, Coded, sorts_from, first_malformed};
+ghost use Rattle.nodes.specs.Codes.{sort_from, Coded, node_sorts, first_malformed};
 
-use bits::{Op, both};
+use bits::Op;
 use blocks::word_in;
 use model::{Comparison, Connective, Kind, Node, Role, Roles, Sort, Stage};
+use std::marker::Model;
 
-// The kind with a number, if one has it.
+// The kind with a number, if one has it. A function and no `From`, since the type is another crate's.
+#[tactic(auto, unfolding(model::specs::Nodes::kind_in))]
 pub fn kind_in(number: u32) -> Kind
     ensures { result ≡ kind_in kinds number }
 {
@@ -47,16 +50,12 @@ pub fn kind_in(number: u32) -> Kind
     }
 }
 
+// By number, as the definition says it: a stage is asked before there is a kind.
+#[tactic(auto, unfolding(model::specs::Lists::times))]
 fn pipeline_only(number: u32) -> bool
     ensures { result ≡ pipeline_only number }
 {
-    match number {
-        3 => true,
-        33 => true,
-        34 => true,
-        39 => true,
-        _ => false,
-    }
+    matches!(number, 3 | 33 | 34 | 39)
 }
 
 fn allowed(stage: Stage, number: u32) -> bool
@@ -65,7 +64,7 @@ fn allowed(stage: Stage, number: u32) -> bool
     match stage {
         Stage::Pipeline => true,
         Stage::Passive => !pipeline_only(number),
-        Stage::Condition => both(!pipeline_only(number), number < 32),
+        Stage::Condition => !pipeline_only(number) & (number < 32),
     }
 }
 
@@ -91,27 +90,27 @@ pub fn roles(kind: Kind) -> Roles
     ensures { result ≡ roles kind }
 {
     match kind {
-        Kind::Constant => are(Role::Number, Role::Number, Role::Unused),
-        Kind::Field => are(Role::Number, Role::Unused, Role::Unused),
-        Kind::Parameter => are(Role::Number, Role::Number, Role::Unused),
-        Kind::Binary(_) => are(Role::Child, Role::Child, Role::Unused),
-        Kind::Complement => are(Role::Child, Role::Unused, Role::Unused),
+        Kind::Constant | Kind::Parameter => are(Role::Number, Role::Number, Role::Unused),
+        Kind::Field | Kind::Truth | Kind::Havoc | Kind::Apply => are(
+            Role::Number,
+            Role::Unused,
+            Role::Unused,
+        ),
         Kind::Slice => are(Role::Child, Role::Number, Role::Number),
-        Kind::Join => are(Role::Child, Role::Child, Role::Unused),
         Kind::Select => are(Role::Child, Role::Child, Role::Child),
-        Kind::Truth => are(Role::Number, Role::Unused, Role::Unused),
-        Kind::Compare(_) => are(Role::Child, Role::Child, Role::Unused),
-        Kind::Not => are(Role::Child, Role::Unused, Role::Unused),
-        Kind::Connect(_) => are(Role::Child, Role::Child, Role::Unused),
-        Kind::Skip => are(Role::Unused, Role::Unused, Role::Unused),
+        Kind::Complement | Kind::Not | Kind::Assume | Kind::Assert => are(
+            Role::Child,
+            Role::Unused,
+            Role::Unused,
+        ),
+        Kind::Binary(_)
+        | Kind::Join
+        | Kind::Compare(_)
+        | Kind::Connect(_)
+        | Kind::Sequence
+        | Kind::Choice => are(Role::Child, Role::Child, Role::Unused),
         Kind::Assign => are(Role::Number, Role::Child, Role::Unused),
-        Kind::Havoc => are(Role::Number, Role::Unused, Role::Unused),
-        Kind::Assume => are(Role::Child, Role::Unused, Role::Unused),
-        Kind::Assert => are(Role::Child, Role::Unused, Role::Unused),
-        Kind::Sequence => are(Role::Child, Role::Child, Role::Unused),
-        Kind::Choice => are(Role::Child, Role::Child, Role::Unused),
-        Kind::Apply => are(Role::Number, Role::Unused, Role::Unused),
-        Kind::Unknown => are(Role::Unused, Role::Unused, Role::Unused),
+        Kind::Skip | Kind::Unknown => are(Role::Unused, Role::Unused, Role::Unused),
     }
 }
 
@@ -119,8 +118,7 @@ fn zero_in(role: Role, x: u32) -> bool
     ensures { result ≡ zero_in role x }
 {
     match role {
-        Role::Child => true,
-        Role::Number => true,
+        Role::Child | Role::Number => true,
         Role::Unused => x == 0,
     }
 }
@@ -129,225 +127,280 @@ fn unused_zero(kind: Kind, n: Node) -> bool
     ensures { result ≡ unused_zero kind n }
 {
     let w = roles(kind);
-    let a = w.a;
-    let b = w.b;
-    let c = w.c;
-    both(both(zero_in(a, n.a), zero_in(b, n.b)), zero_in(c, n.c))
+    zero_in(w.a, n.a) & zero_in(w.b, n.b) & zero_in(w.c, n.c)
 }
 
-// A node's sort is kept, asked and made as the byte that stands for it (`sort_from`): to decode and to encode it at each node would make
-// a long chain slow, where each node waits for the one before. These are the bytes of the sorts without a width.
-const MALFORMED: u8 = 0;
-
-const TEST: u8 = 1;
-
-const STATEMENT: u8 = 2;
-
-// The byte of a value. Two widths together have one too: a join makes it first and then tests the sum.
-fn value_code(width: u32) -> u8
-    requires { width ≤ 64 }
-    ensures { sort_from result ≡ Sort.Value width }
-{
-    (width + 3) as u8
+// A node's sort, as the byte that stands for it (`sort_from`). A clause sees the sort. The sorts so far are an area of bytes, since memory is
+// fixed: 65,536 of them at most; and the byte is what is asked and made, since to decode and to encode it at each node would make a long
+// chain slow, where each node waits for the one before.
+#[derive(Clone, Copy)]
+pub struct Code {
+    byte: u8,
 }
 
-pub fn width_of(code: u8) -> u32
-    ensures { result ≡ width_of (sort_from code) }
-{
-    if 3 <= code { code as u32 - 3 } else { 0 }
+impl Model for Code {
+    ghost use Rattle.std.specs.Prelude.{◌≤◌};
+    ghost use Rattle.model.specs.declared.Sort.{Sort};
+
+    ghost Value = { Sort };
+
+    ghost use Rattle.nodes.specs.Codes.{sort_from, byte_of, byte_back};
+
+    ghost view = { λ c. sort_from c.byte };
+
+    // A byte's own range, and no more: every byte is a code.
+    ghost invariant = { λ c. c.byte ≤ 255 };
+
+    ghost inverse = { λ s. record { byte = byte_of s } };
+
+    ghost inverse_ok = { λ c h i. record { byte = byte_back c.byte i } };
 }
 
-pub fn is_test(code: u8) -> bool
-    ensures { result ≡ is_test (sort_from code) }
-{
-    code == TEST
-}
+impl Code {
+    pub fn from_byte(byte: u8) -> Code
+        ensures { result ≡ sort_from byte }
+    {
+        Code { byte }
+    }
 
-pub fn is_statement(code: u8) -> bool
-    ensures { result ≡ is_statement (sort_from code) }
-{
-    code == STATEMENT
-}
+    // The sorts without a width. Functions, since of a constant a proof would see the byte in place of the sort.
+    #[tactic(auto, using(crate::proofs::Bytes::malformed_byte))]
+    pub fn malformed() -> Code
+        ensures { result ≡ Sort.Malformed }
+    {
+        Code { byte: 0 }
+    }
 
-pub fn is_formed(code: u8) -> bool
-    ensures { result ≡ is_formed (sort_from code) }
-{
-    code != MALFORMED
+    #[tactic(auto, using(crate::proofs::Bytes::test_byte))]
+    fn test() -> Code
+        ensures { result ≡ Sort.Test }
+    {
+        Code { byte: 1 }
+    }
+
+    #[tactic(auto, using(crate::proofs::Bytes::statement_byte))]
+    fn statement() -> Code
+        ensures { result ≡ Sort.Statement }
+    {
+        Code { byte: 2 }
+    }
+
+    #[tactic(auto, using(crate::proofs::Bytes::byte_value))]
+    fn value(width: u32) -> Code
+        requires { width ≤ 252 }
+        ensures { result ≡ Sort.Value width }
+    {
+        Code {
+            byte: (width + 3) as u8,
+        }
+    }
+
+    #[tactic(auto, using(crate::proofs::Bytes::byte_width))]
+    pub fn width(self) -> u32
+        ensures value { result ≡ width_of self }
+        ensures bound { result ≤ 252 }
+    {
+        let byte = self.byte;
+        if 3 <= byte { byte as u32 - 3 } else { 0 }
+    }
+
+    #[tactic(auto, using(crate::proofs::Bytes::byte_test))]
+    pub fn is_test(self) -> bool
+        ensures { result ≡ is_test self }
+    {
+        self.byte == 1
+    }
+
+    #[tactic(auto, using(crate::proofs::Bytes::byte_statement))]
+    pub fn is_statement(self) -> bool
+        ensures { result ≡ is_statement self }
+    {
+        self.byte == 2
+    }
+
+    #[tactic(auto, using(crate::proofs::Bytes::byte_formed))]
+    pub fn is_formed(self) -> bool
+        ensures { result ≡ is_formed self }
+    {
+        self.byte != 0
+    }
+
+    fn is_value(self) -> bool
+        ensures { result ≡ is_value self }
+    {
+        0 < self.width()
+    }
+
+    fn alike(self, other: Code) -> bool
+        ensures { result ≡ alike self other }
+    {
+        self.is_value() & (self.width() == other.width())
+    }
 }
 
 pub fn is_width(w: u32) -> bool
     ensures { result ≡ is_width w }
 {
-    both(1 <= w, w <= 32)
+    (1..=32).contains(&w)
 }
 
-fn is_value(code: u8) -> bool
-    ensures { result ≡ is_value (sort_from code) }
+fn only(good: bool, sort: Code) -> Code
+    ensures { result ≡ only good sort }
 {
-    0 < width_of(code)
+    if good { sort } else { Code::malformed() }
 }
 
-fn alike(s: u8, t: u8) -> bool
-    ensures { result ≡ alike (sort_from s) (sort_from t) }
-{
-    both(is_value(s), width_of(s) == width_of(t))
-}
-
-fn only(good: bool, code: u8) -> u8
-    ensures { sort_from result ≡ only good (sort_from code) }
-{
-    if good { code } else { MALFORMED }
-}
-
-fn below(i: u32, count: usize) -> bool
-    ensures { result ≡ ltb i count }
-{
-    (i as usize) < count
-}
-
-fn constant_sort(value: u32, width: u32) -> u8
-    ensures { sort_from result ≡ only (is_width width && fits width value) (Sort.Value width) }
+fn constant_sort(value: u32, width: u32) -> Code
+    ensures { result ≡ only (is_width width && fits width value) (Sort.Value width) }
 {
     if is_width(width) {
-        only(bits::fits(width, value), value_code(width))
+        only(bits::fits(width, value), Code::value(width))
     } else {
-        MALFORMED
+        Code::malformed()
     }
 }
 
-fn parameter_sort(width: u32) -> u8
-    ensures { sort_from result ≡ only (is_width width) (Sort.Value width) }
+fn parameter_sort(width: u32) -> Code
+    ensures { result ≡ only (is_width width) (Sort.Value width) }
 {
     if is_width(width) {
-        value_code(width)
+        Code::value(width)
     } else {
-        MALFORMED
+        Code::malformed()
     }
 }
 
-fn slice_sort(operand: u8, high: u32, low: u32) -> u8
-    requires { width_of (sort_from operand) ≤ 32 }
-    ensures { sort_from result ≡ only (ltb high (width_of (sort_from operand)) && leb low high) (Sort.Value (high - low + 1)) }
+fn slice_sort(operand: Code, high: u32, low: u32) -> Code
+    ensures { result ≡ only (ltb high (width_of operand) && leb low high) (Sort.Value (high - low + 1)) }
 {
-    if high < width_of(operand) {
-        if low <= high {
-            return value_code(high - low + 1);
-        }
+    if high < operand.width() && low <= high {
+        Code::value(high - low + 1)
+    } else {
+        Code::malformed()
     }
-    MALFORMED
 }
 
-fn join_sort(above: u8, below: u8) -> u8
-    requires { (width_of (sort_from above) ≤ 32) × (width_of (sort_from below) ≤ 32) }
-    ensures { sort_from result ≡ only (is_value (sort_from above) && is_value (sort_from below) && leb (width_of (sort_from above) + width_of (sort_from below)) 32)
-        (Sort.Value (width_of (sort_from above) + width_of (sort_from below))) }
+fn join_sort(above: Code, below: Code) -> Code
+    ensures { result ≡ only (is_value above && is_value below && leb (width_of above + width_of below) 32) (Sort.Value (width_of above + width_of below)) }
 {
-    let total = width_of(above) + width_of(below);
-    only(
-        both(both(is_value(above), is_value(below)), total <= 32),
-        value_code(total),
-    )
+    let total = above.width() + below.width();
+    if total <= 32 {
+        only(above.is_value() & below.is_value(), Code::value(total))
+    } else {
+        Code::malformed()
+    }
 }
 
 // The sorts of a node's three words, each as if it were a child.
 #[derive(Clone, Copy)]
 pub struct Three {
-    pub a: u8,
-    pub b: u8,
-    pub c: u8,
+    pub a: Code,
+    pub b: Code,
+    pub c: Code,
 }
 
-// The sort of a node of a kind.
-fn sort_by(widths: &[u32], tables: usize, kind: Kind, n: Node, s: Three) -> u8
-    requires a_bound { (width_of (sort_from s.a) ≤ 32) × (width_of (sort_from s.b) ≤ 32) }
-    requires by_index { (x : ℕ) → word widths.now x ≤ 32 }
-    ensures { (sort : ℕ → Sort) → sort_from s.a ≡ sort n.a → sort_from s.b ≡ sort n.b → sort_from s.c ≡ sort n.c
-        → sort_from result ≡ sort_by widths.now tables sort kind n.a n.b n.c }
-{
-    let a = s.a;
-    let b = s.b;
-    let c = s.c;
-    match kind {
-        Kind::Constant => constant_sort(n.a, n.b),
-        Kind::Field => only(below(n.a, widths.len()), value_code(word_in(widths, n.a))),
-        Kind::Parameter => parameter_sort(n.b),
-        Kind::Binary(_) => only(alike(a, b), a),
-        Kind::Complement => only(is_value(a), a),
-        Kind::Slice => slice_sort(a, n.b, n.c),
-        Kind::Join => join_sort(a, b),
-        Kind::Select => only(both(is_test(a), alike(b, c)), b),
-        Kind::Truth => only(n.a <= 1, TEST),
-        Kind::Compare(_) => only(alike(a, b), TEST),
-        Kind::Not => only(is_test(a), TEST),
-        Kind::Connect(_) => only(both(is_test(a), is_test(b)), TEST),
-        Kind::Skip => STATEMENT,
-        Kind::Assign => only(
-            both(
-                below(n.a, widths.len()),
-                alike(b, value_code(word_in(widths, n.a))),
+// What a list of nodes is read by: where it stands, the widths of the fields (of the variables), and how many tables there are.
+#[derive(Drop)]
+pub struct Setting<'a> {
+    pub stage: Stage,
+    pub widths: &'a [u32],
+    pub tables: usize,
+    pub ghost narrow: { (x : ℕ) → word widths.now x ≤ 32 },
+}
+
+impl<'a> Setting<'a> {
+    fn has_field(&self, i: u32) -> bool
+        ensures { result ≡ ltb i (length self.now.widths.now) }
+    {
+        (i as usize) < self.widths.len()
+    }
+
+    fn has_table(&self, i: u32) -> bool
+        ensures { result ≡ ltb i self.now.tables }
+    {
+        (i as usize) < self.tables
+    }
+
+    // The sort of what a field holds.
+    fn field_sort(&self, i: u32) -> Code
+        ensures { result ≡ Sort.Value (word self.now.widths.now i) }
+    {
+        Code::value(word_in(self.widths, i))
+    }
+
+    // The sort of a node of a kind.
+    fn sort_by(&self, kind: Kind, n: Node, s: Three) -> Code
+        ensures { (sort : ℕ → Sort) → s.a ≡ sort n.a → s.b ≡ sort n.b → s.c ≡ sort n.c
+            → result ≡ sort_by self.now.widths.now self.now.tables sort kind n.a n.b n.c }
+    {
+        let a = s.a;
+        let b = s.b;
+        let c = s.c;
+        match kind {
+            Kind::Constant => constant_sort(n.a, n.b),
+            Kind::Field => only(self.has_field(n.a), self.field_sort(n.a)),
+            Kind::Parameter => parameter_sort(n.b),
+            Kind::Binary(_) => only(a.alike(b), a),
+            Kind::Complement => only(a.is_value(), a),
+            Kind::Slice => slice_sort(a, n.b, n.c),
+            Kind::Join => join_sort(a, b),
+            Kind::Select => only(a.is_test() & b.alike(c), b),
+            Kind::Truth => only(n.a <= 1, Code::test()),
+            Kind::Compare(_) => only(a.alike(b), Code::test()),
+            Kind::Not => only(a.is_test(), Code::test()),
+            Kind::Connect(_) => only(a.is_test() & b.is_test(), Code::test()),
+            Kind::Skip => Code::statement(),
+            Kind::Assign => only(
+                self.has_field(n.a) & b.alike(self.field_sort(n.a)),
+                Code::statement(),
             ),
-            STATEMENT,
-        ),
-        Kind::Havoc => only(below(n.a, widths.len()), STATEMENT),
-        Kind::Assume => only(is_test(a), STATEMENT),
-        Kind::Assert => only(is_test(a), STATEMENT),
-        Kind::Sequence => only(both(is_statement(a), is_statement(b)), STATEMENT),
-        Kind::Choice => only(both(is_statement(a), is_statement(b)), STATEMENT),
-        Kind::Apply => only(below(n.a, tables), STATEMENT),
-        Kind::Unknown => MALFORMED,
-    }
-}
-
-// The sort of a node, from the sorts of its children: Check, Condition and Evaluate call this.
-pub fn sort_of(stage: Stage, widths: &[u32], tables: usize, n: Node, s: Three) -> u8
-    requires a_bound { (width_of (sort_from s.a) ≤ 32) × (width_of (sort_from s.b) ≤ 32) }
-    requires by_index { (x : ℕ) → word widths.now x ≤ 32 }
-    ensures { (before : List Sort) → sort_from s.a ≡ get_or before n.a Sort.Malformed → sort_from s.b ≡ get_or before n.b Sort.Malformed
-        → sort_from s.c ≡ get_or before n.c Sort.Malformed → sort_from result ≡ sort_of stage widths.now tables before n }
-{
-    let kind = kind_of(stage, n.kind);
-    only(unused_zero(kind, n), sort_by(widths, tables, kind, n, s))
-}
-
-// The sort of node x, if it is one of the first `count`.
-pub fn sort_in(codes: &[u8], count: usize, x: u32) -> u8
-    requires { count ≤ length codes.now }
-    ensures { sort_from result ≡ (if ltb x count then sort_from (word codes.now x) else Sort.Malformed) }
-{
-    let at = x as usize;
-    if at < count { codes[at] } else { MALFORMED }
-}
-
-// The first node that is malformed, or the count; the sorts of those before it stand in `codes`.
-pub fn first_malformed(
-    stage: Stage,
-    ws: &[u32],
-    from: usize,
-    count: usize,
-    widths: &[u32],
-    tables: usize,
-    codes: &mut [u8],
-) -> usize
-    requires count_in_bounds { from + 4 * count ≤ length ws.now }
-    requires count_in_bounds_2 { count ≤ length codes.old }
-    requires by_index { (x : ℕ) → word widths.now x ≤ 32 }
-    ensures value { result ≡ first_malformed stage ws.now from count widths.now tables }
-    ensures coded { Coded codes.new (sorts_from stage ws.now from count widths.now tables) result }
-{
-    let mut i = 0;
-    while i < count {
-        let n = blocks::node_at(ws, from + blocks::NODE * i);
-        let s = Three {
-            a: sort_in(codes, i, n.a),
-            b: sort_in(codes, i, n.b),
-            c: sort_in(codes, i, n.c),
-        };
-        let sort = sort_of(stage, widths, tables, n, s);
-        if !is_formed(sort) {
-            return i;
+            Kind::Havoc => only(self.has_field(n.a), Code::statement()),
+            Kind::Assume | Kind::Assert => only(a.is_test(), Code::statement()),
+            Kind::Sequence | Kind::Choice => only(
+                a.is_statement() & b.is_statement(),
+                Code::statement(),
+            ),
+            Kind::Apply => only(self.has_table(n.a), Code::statement()),
+            Kind::Unknown => Code::malformed(),
         }
-        codes[i] = sort;
-        i += 1;
     }
-    i
+
+    // The sort of a node, from the sorts of its children: Check, Condition and Evaluate call this.
+    pub fn sort_of(&self, n: Node, s: Three) -> Code
+        ensures { (before : List Sort) → s.a ≡ get_or before n.a Sort.Malformed → s.b ≡ get_or before n.b Sort.Malformed
+            → s.c ≡ get_or before n.c Sort.Malformed → result ≡ sort_of self.now.stage self.now.widths.now self.now.tables before n }
+    {
+        let kind = kind_of(self.stage, n.kind);
+        only(unused_zero(kind, n), self.sort_by(kind, n, s))
+    }
+
+    // The first node that is malformed, if there is one; the sorts of those before it stand in `codes`.
+    pub fn first_malformed(&self, nodes: &[u32], codes: &mut [Code]) -> Option<usize>
+        requires room { node_count nodes.now ≤ length codes.old }
+        ensures value { result ≡ first_malformed self.now.stage self.now.widths.now self.now.tables nodes.now }
+        ensures coded { Coded codes.new (node_sorts self.now.stage self.now.widths.now self.now.tables nodes.now) (or_count (node_count nodes.now) result) }
+    {
+        for i in 0..nodes.len() / blocks::NODE {
+            let n = blocks::node_at(nodes, blocks::NODE * i);
+            let before = &codes[..i];
+            let s = Three {
+                a: sort_in(before, n.a),
+                b: sort_in(before, n.b),
+                c: sort_in(before, n.c),
+            };
+            let sort = self.sort_of(n, s);
+            if !sort.is_formed() {
+                return Some(i);
+            }
+            codes[i] = sort;
+        }
+        None
+    }
+}
+
+// The sort of node x, if it is one of those whose sorts are given.
+pub fn sort_in(codes: &[Code], x: u32) -> Code
+    ensures { result ≡ get_or codes.now x Sort.Malformed }
+{
+    codes.get(x as usize).copied().unwrap_or(Code::malformed())
 }

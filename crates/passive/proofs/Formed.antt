@@ -11,6 +11,7 @@ use borrow.Author.Tests.{le-leb, lt-leb}
 use lib.Dec.{leb}
 use lib.ListN.{set, length, take, length-set}
 use lib.Seq.{take-set-le, take-suc-set}
+use Rattle.std.specs.Prelude.{Ok, Err}
 use Rattle.model.specs.Lists.{each}
 use Rattle.model.specs.Blocks.{F, root, width, widths}
 use Rattle.model.specs.Passive.{packet_vars, passive_by}
@@ -19,17 +20,15 @@ use Rattle.model.specs.Answers.{done, refused, after}
 use Rattle.model.specs.Refusals.{Row, judge, room, check_rows}
 use Rattle.model.specs.Calls.{over, check, large_row, passify, Passifies, Checks}
 use Rattle.model.specs.Demands.{Accepted}
-use Rattle.model.specs.declared.Checked.{Checked}
-use Rattle.model.specs.declared.Passified.{Passified}
 use Rattle.model.specs.declared.Refusal.{Refusal}
 use Rattle.model.proofs.Lists.{length-each}
 use Rattle.model.proofs.NodeList.{length-words}
 use Rattle.model.proofs.First.{once_stop, once-on, judge-append}
-use Rattle.model.proofs.Passing.{passed_on, tells_on, check_accepts, check_refuses}
+use Rattle.model.proofs.Passing.{passed_on, tells_on, check_refuses}
 use Rattle.pieces.proofs.Pieces.{alone}
 use Rattle.actions.specs.Scopes.{program_scope}
 use Rattle.variables.specs.declared.Vars.{Vars as Held}
-use Rattle.variables.specs.declared.Made.{Made}
+use Rattle.variables.specs.declared.place.Made.{Made}
 use Rattle.variables.specs.Variables.{Holds, few}
 use Rattle.forms.specs.Writes.{Writes, form_of}
 use Rattle.passive.specs.Formed.{Counts, Leaves}
@@ -82,7 +81,7 @@ module _ (p r : List ℕ) (accepted : Accepted p r) where
 
   module _ (lent area : List ℕ) {v : Held} {nodes nodes' area' : List ℕ} {m : Made} (c : take (F p) v.current ≡ each (λ i. i) (F p)) (n : v.next ≡ F p)
       (ws : List ℕ) (is : ws ≡ widths p) (w : length ws ≤ length lent → area ≡ over ws lent) (same : length area ≡ length lent)
-      (g : Writes p (form_of p r program_scope (root p)) 0 v nodes nodes' area area' m) where
+      {f : 0 ≤ form_limit → few 0 v.next} (g : Writes p (form_of p r program_scope (root p)) (record { at = 0; vars = v; few_variables = f }) nodes nodes' area area' m) where
     holds : Holds p lent area v (packet_vars p)
     holds = packet-holds lent area c n (rw is at w) same
 
@@ -124,7 +123,7 @@ module _ (p r nodes area : List ℕ) where
     checked-on = rw (judge-append (check_rows p r) (large_row p r ∷ node_row ∷ width_row ∷ []), accepted)
 
     refuses : (place : ℕ) → judge (large_row p r ∷ node_row ∷ width_row ∷ []) ≡ refused 12 place
-        → Passifies p r nodes area (Passified.Refused (Refusal.Room place)) nodes area
+        → Passifies p r nodes area (Err (Refusal.Room place)) nodes area
     refuses place e =
         let given : passify p r (length nodes) (length area) ≡ refused 12 place = rw (checked-on, e) in
         record { answers = rw given; nodes_area = rw given; widths_area = rw given }
@@ -133,7 +132,7 @@ module _ (p r nodes area : List ℕ) where
       small : m.at ≤ form_limit → length form.nodes ≤ form_limit
       small h = elim (dec_le (length form.nodes) form_limit) [ yes k ↦ k | no k ↦ let l = c.large (omega arith) in omega arith ]
 
-      pub too_large : form_limit < m.at → Passifies p r nodes area (Passified.Refused (Refusal.Room 0)) nodes area
+      pub too_large : form_limit < m.at → Passifies p r nodes area (Err (Refusal.Room 0)) nodes area
       too_large h =
           let big : form_limit < length form.nodes =
           elim (dec_le (length form.nodes) form_limit) [ yes k ↦ let l = c.count k in omega arith | no k ↦ omega arith ] in
@@ -147,7 +146,7 @@ module _ (p r nodes area : List ℕ) where
             (sym (le-leb (length form.nodes) form_limit (small h))) refl
 
         -- the need is what was counted
-        pub no-node-room : {need : ℕ} → need ≡ 4 * m.at → length nodes < need → Passifies p r nodes area (Passified.Refused (Refusal.Room need)) nodes area
+        pub no-node-room : {need : ℕ} → need ≡ 4 * m.at → length nodes < need → Passifies p r nodes area (Err (Refusal.Room need)) nodes area
         no-node-room {need} e k =
             let words : need ≡ 4 * length form.nodes = e ∙ ap (λ n. 4 * n) (c.count (small h)) in
             rw words
@@ -163,7 +162,7 @@ module _ (p r nodes area : List ℕ) where
               ∙ once-on 12 (width_row ∷ []) (λ _. leb (4 * length form.nodes) (length nodes)) (λ _. 4 * length form.nodes) true
               (sym (le-leb (4 * length form.nodes) (length nodes) (omega (arith, c.count (small h))))) refl
 
-          pub no-width-room : {need : ℕ} → need ≡ m.vars.next → length area < need → Passifies p r nodes area (Passified.Refused (Refusal.Room need)) nodes area
+          pub no-width-room : {need : ℕ} → need ≡ m.vars.next → length area < need → Passifies p r nodes area (Err (Refusal.Room need)) nodes area
           no-width-room {need} e l =
               let count : need ≡ length form.widths = e ∙ c.variables (small h) in
               rw count
@@ -173,7 +172,7 @@ module _ (p r nodes area : List ℕ) where
               (sym (lt-leb (length form.widths) (length area) (omega (arith, count)))) refl))
 
           pub passes : {nodes' area' : List ℕ} {n v : ℕ} → n ≡ m.at → v ≡ m.vars.next → v ≤ length area → Leaves form nodes nodes' area area'
-              → Passifies p r nodes area (Passified.Form n v) nodes' area'
+              → Passifies p r nodes area (Ok (record { nodes = n; variables = v })) nodes' area'
           unfolding judge
           passes {nodes'} {area'} e d l w =
               let i = small h in
@@ -192,13 +191,10 @@ module _ (p r nodes area : List ℕ) where
               }
 
   -- a refusal of Check is passed on
-  pub check-refused : (a : Checked) → Checks p r a → (x : Refusal) → a ≡ Checked.Refused x → Passifies p r nodes area (Passified.Refused x) nodes area
+  pub check-refused : (x : Refusal) → Checks p r (Err x) → Passifies p r nodes area (Err x) nodes area
   unfolding passify
-  check-refused a h x e =
-      let f = check_refuses p r x (rw e at h) in
+  check-refused x h =
+      let f = check_refuses p r x h in
       let more = large_row p r ∷ node_row ∷ width_row ∷ [] in
       let given = passed_on x (check_rows p r) f more (λ _. done form) in
       record { answers = tells_on x (check_rows p r) f more _ (λ _. done form); nodes_area = rw given; widths_area = rw given }
-
-  pub check-accepted : (a : Checked) → Checks p r a → a ≡ Checked.Accepted → Accepted p r
-  check-accepted a h e = check_accepts p r (rw e at h)

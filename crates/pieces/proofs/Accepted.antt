@@ -21,7 +21,7 @@ use Rattle.model.proofs.Lists.{made, build-at}
 use Rattle.model.proofs.Every.{build-before, build-past, build_related}
 use Rattle.model.proofs.SortTests.{value_is, alike-parts}
 use Rattle.model.proofs.Decoded.{sort_step, tree_step}
-use Rattle.model.proofs.Accepted.{rows, accepted-good}
+use Rattle.model.proofs.Accepted.{rows}
 use Rattle.model.proofs.Uses.{accepted-children}
 use Rattle.pieces.specs.Sound.{IsValue, IsTest, Reads, Sound}
 
@@ -160,7 +160,6 @@ module _ (p given : List ℕ) where
 pub sound : (p r : List ℕ) → Accepted p r → Sound p
 sound p r e =
     record {
-      whole = (accepted-good p r e).counts.pipeline_words;
       below = accepted-children p r e;
       reads = λ given i h. node-reads p given i h ((rows p r e).four i h);
     }

@@ -6,9 +6,6 @@ use mathlib.Core.List.{List, [], ◌∷◌, ◌++◌, append_assoc}
 use borrow.Author.Tests.{ne_eqb}
 use lib.Dec.{eqb}
 use lib.ListN.{get_or, length}
-use mathlib.Core.Logic.{⊎_elim}
-use types.Run.{OneOf}
-use denote.Enum.Declared.{tag_of}
 use Rattle.bits.specs.declared.Op.{Op}
 use Rattle.std.specs.Prelude.{if◌then◌else◌}
 use Rattle.model.specs.Blocks.{N, node, pipeline_node}
@@ -23,29 +20,19 @@ use Rattle.model.specs.declared.Node.{Node}
 use Rattle.model.specs.declared.Role.{Role}
 use Rattle.model.specs.declared.Role.TheVariants.{Child, Number, Unused}
 use Rattle.model.specs.declared.Roles.{Roles}
-use Rattle.model.specs.contracts.Role as role
 use Rattle.model.proofs.Children.{BeforeIn, BeforeAll}
-use Rattle.model.proofs.KindNumbers.{kind_number}
+use Rattle.model.proofs.KindNumbers.{kind_number, kind_in-number}
 use Rattle.model.proofs.NodeList.{gives_value, gives_test}
 use Rattle.values.proofs.Trees.{node-before, tree-at}
 use Rattle.pieces.specs.Pieces.{Emitted, Behind, Start, emit_tree, child_nodes, shown, placed}
 use Rattle.pieces.specs.Sound.{IsValue, IsTest, Expression, Reads, ChildThere, Sound}
-use Rattle.pieces.proofs.Pieces.{lent, back, fits_so, numbered, past-append, lent_behind, none-behind, alone, above_none}
+use Rattle.pieces.proofs.Pieces.{lent, back, fits_so, numbered, past-append, lent_behind, alone, above_none}
 
 -- a child is below its parent, in a cycle of two functions
 abbrev pub child_depth : Role → ℕ → ℕ
 child_depth Child x = 2 * x + 2
 child_depth Number x = 0
 child_depth Unused x = 0
-
--- a role that isn't a child's
-abbrev NoChild : Role → Type 0
-NoChild Child = ⊥
-NoChild Number = Unit {0}
-NoChild Unused = Unit {0}
-
-no_child : (r : Role) → NoChild r → r ≡ Child → ⊥
-no_child r q k = rw k at q
 
 -- ---- a tree that is what it is read as
 
@@ -296,36 +283,29 @@ module _ {p given : List ℕ} {n t : ℕ} {read : Node} {kind : Kind} {rs : Role
 
 -- ---- a node as it is shown
 
-module _ (current given : List ℕ) (n : Node) where
-  pub shows_field : {x : ℕ} {z : Node} → n.kind ≡ 2 → x ≡ get_or current n.a 0 → z ≡ node 2 x 0 0 → z ≡ shown current given n
-  shows_field k e d = rw (k, d, e)
+module _ (current given : List ℕ) (n : Node) {k : Kind} (e : k ≡ kind_in kinds n.kind) where
+  -- the number is the kind's
+  of_kind : (o : Kind) → 1 ≤ number_of o → k ≡ o → n.kind ≡ number_of o
+  of_kind o some d = kind_number kinds n.kind o some (sym e ∙ d)
 
-  pub shows_parameter : {x : ℕ} {z : Node} → n.kind ≡ 3 → x ≡ get_or given n.a 0 → z ≡ node 1 x n.b 0 → z ≡ shown current given n
-  shows_parameter k e d = rw (k, d, e)
+  -- and the kind the number's
+  of_number : (o : Kind) → n.kind ≡ number_of o → k ≡ o
+  of_number o d = e ∙ ap (kind_in kinds) d ∙ kind_in-number o
 
-  pub shows_other : (n.kind ≡ 2 → ⊥) → (n.kind ≡ 3 → ⊥) → n ≡ shown current given n
-  shows_other h k = rw (ne_eqb n.kind 2 h, ne_eqb n.kind 3 k)
+  pub shows_field : k ≡ Kind.Field → node 2 (get_or current n.a 0) 0 0 ≡ shown current given n
+  shows_field d = rw (of_kind Kind.Field (omega arith) d)
 
-pub ruleset shows = (shows_field, shows_parameter, shows_other)
+  pub shows_parameter : k ≡ Kind.Parameter → node 1 (get_or given n.a 0) n.b 0 ≡ shown current given n
+  shows_parameter d = rw (of_kind Kind.Parameter (omega arith) d)
 
--- ---- a word that is a child, or isn't
+  pub shows_other : (k ≡ Kind.Field → ⊥) → (k ≡ Kind.Parameter → ⊥) → n ≡ shown current given n
+  shows_other f q = rw (ne_eqb n.kind 2 (λ d. f (of_number Kind.Field d)), ne_eqb n.kind 3 (λ d. q (of_number Kind.Parameter d)))
+
+-- ---- a word that is a child
 
 module _ (p given : List ℕ) (r : Role) (x : ℕ) where
-  pub child_asks : {t : ℕ} → r ≡ Child → child_depth r x ≡ t → Sound p → ChildThere (N p) (tree p given) r x
-      → (2 * x + 1 < t) × (Sound p × ((x < N p) × Expression (tree p given x)))
-  child_asks e d s h = let k = rw e at h in let m = rw e at d in (omega (arith, m), (s, k))
-
   pub child_gives : (current : List ℕ) {before ys : List ℕ} {from at s to : ℕ} → r ≡ Child → ChildThere (N p) (tree p given) r x
       → Start from at (length before) s → Emitted (emit_tree current (tree p given x) at) at (lent s before) ys to
       → Behind (child_nodes current (tree p given) r x) from at before (back s before ys) to × (r ≡ Child → 1 ≤ to)
   child_gives current e h st f =
       let k = rw e at h in (rw e (lent_behind st (λ at. emit_tree current (tree p given x) at) f), λ _. above_none (tree-some current _ (tree p given x) k.1) f)
-
-  pub no_child_gives : (current : List ℕ) (from at : ℕ) (area : List ℕ) → OneOf (1 ∷ 2 ∷ []) (tag_of role.the_type r)
-      → Behind (child_nodes current (tree p given) r x) from at area area at × (r ≡ Child → 1 ≤ at)
-  no_child_gives current from at area o = go r o
-    where
-      go : (r : Role) → OneOf (1 ∷ 2 ∷ []) (tag_of role.the_type r) → Behind (child_nodes current (tree p given) r x) from at area area at × (r ≡ Child → 1 ≤ at)
-      go Child o = absurd (⊎_elim (λ z. omega arith) (λ z. omega arith) o)
-      go Number o = (none-behind from at area, λ k. absurd (no_child Number tt k))
-      go Unused o = (none-behind from at area, λ k. absurd (no_child Unused tt k))

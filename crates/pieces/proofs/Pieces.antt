@@ -1,12 +1,13 @@
 -- Laws of pieces that are written one after the other: nothing, a piece behind a piece, and a piece above the limit. Assumes nothing.
-use Prim.Native.Nat.{ℕ, ◌+◌, ◌-◌, ◌/◌, ◌≤◌, ◌<◌}
+use Prim.Native.Nat.{ℕ, ◌+◌, ◌-◌, ◌≤◌, ◌<◌}
 use native.Mathlib.Decide.{dec_le}
+use native.Mathlib.Numerals.{add-one}
 use native.Mathlib.Nat.{add-zero}
 use native.Mathlib.Omega.{arith}
 use mathlib.Core.Path.{◌≡◌, refl, ap, sym, subst, ◌∙◌}
 use mathlib.Core.List.{List, [], ◌∷◌, ◌++◌, append_assoc, append-nil}
-use lib.ListN.{length, take, drop, length-append, length-take, length-drop, drop_of_length-le}
-use lib.Seq.{take_all, take_at, drop_at, drop-drop}
+use lib.ListN.{get_or, length, take, drop, length-append, length-take, length-drop, drop_of_length-le}
+use lib.Seq.{take-suc, take_all, take_at, drop_at, drop-drop}
 use Rattle.model.specs.Blocks.{words}
 use Rattle.model.specs.Emit.{Piece, one, two, past, form_limit}
 use Rattle.model.specs.Calls.{over}
@@ -205,15 +206,13 @@ pub above_none : {x : List Node} {at : ℕ} {before after : List ℕ} {to : ℕ}
 above_none {x} {at} {before} {after} {to} h e =
     elim (dec_le (past at x) form_limit) [ yes k ↦ let l = e.exact k in omega arith | no k ↦ let l = e.large (omega arith) in omega arith ]
 
--- words that are put where there is room are the words of nodes
-pub put-words : {ws before after : List ℕ} {at : ℕ} → (length ws ≤ length before → after ≡ over ws before) → (nodes : List Node) → ws ≡ words nodes
-    → at ≤ form_limit → Emitted nodes at before after (at + length ws / 4)
-put-words {ws} {before} {after} {at} put nodes e h =
-    let long = length-words nodes in
-    let count : length ws / 4 ≡ length nodes = omega (arith, ap length e) in
-    record {
-      onward = omega arith;
-      exact = λ k. omega arith;
-      large = λ k. omega arith;
-      wrote = λ k l. rw (← e) (put (rw e l));
-    }
+-- a node's words, put where there is room
+pub put-node : (n : Node) {before after : List ℕ} {at : ℕ} → (4 ≤ length before → after ≡ over (n.kind ∷ n.a ∷ n.b ∷ n.c ∷ []) before)
+    → at ≤ form_limit → Emitted (n ∷ []) at before after (at + 1)
+unfolding words
+put-node n put h = record { onward = omega arith; exact = λ k. omega arith; large = λ k. omega arith; wrote = λ k l. put l }
+
+-- a node behind those of a list before it
+pub put-more : (nodes : List Node) {i at to to' : ℕ} {area mid after : List ℕ} {n : Node} (d : Node) → i < length nodes → Emitted (take i nodes) at area mid to
+    → length mid ≡ length area → n ≡ get_or nodes i d → Behind (λ _. n ∷ []) at to mid after to' → Emitted (take (i + 1) nodes) at area after to'
+put-more nodes {i} d h e same is b = rw (add-one i, take-suc nodes i d h, ← is) (b.extends same e)

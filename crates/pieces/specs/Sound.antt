@@ -7,7 +7,6 @@ use Rattle.model.specs.Trees.{Tree, as_value, as_test, tree}
 use Rattle.model.specs.declared.Kind.{Kind}
 use Rattle.model.specs.declared.Role.{Role}
 use Rattle.model.specs.declared.Role.TheVariants.{Child, Number, Unused}
-use Rattle.blocks.specs.Whole.{Whole}
 
 -- a tree is the value, or the test, that it is read as
 abbrev pub IsValue : Tree → Type 0
@@ -54,8 +53,7 @@ ChildThere count tree Child x = (x < count) × Expression (tree x)
 ChildThere count tree Number x = Unit {0}
 ChildThere count tree Unused x = Unit {0}
 
--- Every record is there, children stand before their parents, and each is of the sort that its parent reads.
+-- Children stand before their parents, and each is of the sort that its parent reads.
 pub record Sound (p : List ℕ) : Type 0 where
-  pub whole : Whole p
   pub below : (i x : ℕ) → i < N p → among x (children (pipeline_node p i)) ≡ true → x < i
   pub reads : (given : List ℕ) (i : ℕ) → i < N p → let n = pipeline_node p i in Reads (tree p given) (kind_in kinds n.kind) n.a n.b n.c

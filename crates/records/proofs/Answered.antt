@@ -6,6 +6,7 @@ use mathlib.Core.List.{List, [], ◌∷◌}
 use borrow.Author.Tests.{lt-leb, le-leb}
 use lib.Dec.{leb}
 use lib.ListN.{length}
+use Rattle.std.specs.Prelude.{Ok, Err}
 use Rattle.model.specs.Blocks.{size}
 use Rattle.model.specs.Files.{Record, whole, fault, held}
 use Rattle.model.specs.Answers.{done, refused, after, refusal_of}
@@ -13,14 +14,12 @@ use Rattle.model.specs.Refusals.{Row, once, room, judge}
 use Rattle.model.specs.Calls as calls
 use Rattle.model.specs.Calls.{over, TwoBlocks, blocks_of, Loads}
 use Rattle.model.specs.declared.Group.{Group}
-use Rattle.model.specs.declared.Loaded.{Loaded}
 use Rattle.model.specs.declared.Refusal.{Refusal}
 use Rattle.model.proofs.First.{once_stop, once-on}
 use Rattle.records.specs.declared.Runs.{Runs}
-use Rattle.records.specs.declared.Ending.{Ending}
 use Rattle.records.specs.Runs.{records_in, words, pipeline_in, pipeline_words, Whole, Ends, onto}
-use Rattle.records.proofs.Copied.{over-onto}
-use Rattle.records.proofs.Contents.{length-words, pipeline_is, pipeline_long, rules-are}
+use Rattle.records.proofs.Copied.{over-onto, length-words}
+use Rattle.records.proofs.Contents.{pipeline_is, pipeline_long, rules-are}
 
 -- ---- what Load gives, by what the file holds and the room that is lent
 
@@ -65,15 +64,11 @@ module _ (p r : ℕ) where
 
 module _ (file pipeline rules : List ℕ) where
   refuses : (n q : ℕ) → calls.load file (length pipeline) (length rules) ≡ refused n q → (x : Refusal) → refusal_of x ≡ refused n q
-      → Loads file pipeline rules (Loaded.Refused x) pipeline rules
+      → Loads file pipeline rules (Err x) pipeline rules
   refuses n q e x d = record { answers = rw e d; pipeline_area = rw e; rules_area = rw e }
 
-  pub whole-ends : (s : Runs) (x : Ending) → Ends file s x → x ≡ Ending.Whole → Whole file s
-  whole-ends s x h d = rw d at h
-
-  pub loads_fault : (s : Runs) (x : Ending) → Ends file s x → (at : ℕ) → x ≡ Ending.Fault at
-      → Loads file pipeline rules (Loaded.Refused (Refusal.File at)) pipeline rules
-  loads_fault s x h at d = refuses 1 at (gives_fault (length pipeline) (length rules) file at (rw d at h)) (Refusal.File at) refl
+  pub loads_fault : (s : Runs) (why : Refusal) → Ends file s (Err why) → Loads file pipeline rules (Err why) pipeline rules
+  loads_fault s why (at, is, h) = rw is (refuses 1 at (gives_fault (length pipeline) (length rules) file at h) (Refusal.File at) refl)
 
   module _ (s : Runs) (w : Whole file s) where
     abbrev blocks : TwoBlocks
@@ -87,11 +82,11 @@ module _ (file pipeline rules : List ℕ) where
     rules_long = length-words file Group.Rule s.rules
 
     room_refuses : (n q : ℕ) → judge (rooms (length pipeline) (length rules) blocks) ≡ refused 12 q → n ≡ q
-        → Loads file pipeline rules (Loaded.Refused (Refusal.Room n)) pipeline rules
+        → Loads file pipeline rules (Err (Refusal.Room n)) pipeline rules
     room_refuses n q e d = refuses 12 q (gives ∙ ap (λ j. after j (λ _. done blocks)) e) (Refusal.Room n) (ap (refused 12) d)
 
     module _ (n : ℕ) (e : n ≡ pipeline_words s) where
-      pub no-pipeline-room : length pipeline < n → Loads file pipeline rules (Loaded.Refused (Refusal.Room n)) pipeline rules
+      pub no-pipeline-room : length pipeline < n → Loads file pipeline rules (Err (Refusal.Room n)) pipeline rules
       no-pipeline-room h =
           let long = e ∙ sym (pipeline_long file s) in
           room_refuses n (length (pipeline_in file s)) (pipeline-short (length pipeline) (length rules) blocks (rw long at h)) long
@@ -100,13 +95,13 @@ module _ (file pipeline rules : List ℕ) where
         fits : length (pipeline_in file s) ≤ length pipeline
         fits = rw (pipeline_long file s, ← e) h
 
-        pub no-rule-room : length rules < m → Loads file pipeline rules (Loaded.Refused (Refusal.Room m)) pipeline rules
+        pub no-rule-room : length rules < m → Loads file pipeline rules (Err (Refusal.Room m)) pipeline rules
         no-rule-room k =
             let long = d ∙ sym rules_long in
             room_refuses m (length (words file Group.Rule s.rules)) (rules-short (length pipeline) (length rules) blocks fits (rw long at k)) long
 
         pub loads_blocks : m ≤ length rules → (pipeline' rules' : List ℕ) → pipeline' ≡ over (pipeline_in file s) pipeline
-            → rules' ≡ onto 0 (words file Group.Rule s.rules) rules → Loads file pipeline rules (Loaded.Blocks n m) pipeline' rules'
+            → rules' ≡ onto 0 (words file Group.Rule s.rules) rules → Loads file pipeline rules (Ok (record { pipeline = n; rules = m })) pipeline' rules'
         loads_blocks k pipeline' rules' f g =
             let there = rooms_there (length pipeline) (length rules) blocks fits (rw (d ∙ sym rules_long) at k) in
             let is = gives ∙ ap (λ j. after j (λ _. done blocks)) there in

@@ -10,8 +10,7 @@ use Rattle.model.specs.declared.Group.{Group}
 use Rattle.records.specs.declared.Run.{Run}
 use Rattle.records.specs.declared.Runs.{Runs}
 use Rattle.records.specs.Runs.{words, root_in, counts, pipeline_in, pipeline_words, onto}
-use Rattle.records.proofs.Copied.{over-onto, onto-more}
-use Rattle.records.proofs.Contents.{length-words}
+use Rattle.records.proofs.Copied.{over-onto, onto-more, length-words}
 
 -- the words ws stand at the start of the area, and go on at a place
 record Begun (ws before : List ℕ) (to : ℕ) (now : List ℕ) : Type 0 where

@@ -9,18 +9,13 @@ use lib.Dec.{eqb, leb}
 use lib.ListN.{length, length-append}
 use Rattle.std.specs.Prelude.{if◌then◌else◌}
 use Rattle.model.specs.Lists.{each, joined}
-use Rattle.model.specs.Bytes.{big_endian}
 use Rattle.model.specs.Blocks.{size}
 use Rattle.model.specs.Files.{turn, Record, bytes, record_at, words_of, count_of, pipeline_of, rules_of}
 use Rattle.model.specs.declared.Group.{Group}
-use Rattle.model.proofs.Lists.{length-each, length-joined}
 use Rattle.records.specs.declared.Run.{Run}
 use Rattle.records.specs.declared.Runs.{Runs}
+use Rattle.records.proofs.Copied.{length-words}
 use Rattle.records.specs.Runs.{Reads, words_at, words, root_in, records_in, pipeline_in, pipeline_words, Whole, Few}
-
-pub length-words : (file : List ℕ) (g : Group) (run : Run) → length (words file g run) ≡ size g * run.count
-length-words file g run =
-    length-joined (λ i. words_at file (run.at + bytes g * i + 2) (size g)) (size g) (λ i. length-each (λ j. big_endian file (run.at + bytes g * i + 2 + 4 * j)) (size g)) run.count
 
 -- ---- words and counts of lists of records
 
@@ -87,7 +82,7 @@ module _ (file : List ℕ) (s : Runs) where
   pipeline_is = rw (count_in Group.Field, count_in Group.Node, count_in Group.Action, count_in Group.Table, words_in (λ g. eqb (turn g) (turn Group.Root)), words_in (λ g. leb (turn g) (turn Group.Table))) (simp (add-zero, zero-add, append-nil, append_assoc))
 
   pub pipeline_long : length (pipeline_in file s) ≡ pipeline_words s
-  pipeline_long = simp (length-append, length-words) (omega arith)
+  pipeline_long = simp (length-append, length-words file) (omega arith)
 
 inside-run : {file : List ℕ} {g : Group} {at : ℕ} {run : Run} → Reads file g at run → run.at + bytes g * run.count ≤ length file
 inside-run r = omega (arith, r.begins, r.ends, r.inside)

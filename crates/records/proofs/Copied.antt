@@ -3,28 +3,25 @@ use Prim.Native.Nat.{ℕ, ◌+◌, ◌*◌, ◌≤◌, ◌<◌}
 use native.Mathlib.Nat.{add-zero, zero-add, mul-le-mul_left}
 use native.Mathlib.Numerals.{add-one}
 use native.Mathlib.Omega.{arith}
-use mathlib.Core.Path.{◌≡◌, refl, ap, ◌∙◌}
-use mathlib.Core.List.{List, [], ◌∷◌, ◌++◌, append_assoc, append-nil}
-use lib.ListN.{length, take, drop, set, take-append-drop, length-append, length-drop}
-use lib.Seq.{length-take-le, take_at, drop_at, drop-drop, set_split, append_snoc}
-use Rattle.model.specs.Lists.{joined}
+use mathlib.Core.Path.{◌≡◌}
+use mathlib.Core.List.{List, [], ◌++◌, append_assoc, append-nil}
+use lib.ListN.{length, take, drop, take-append-drop, length-append}
+use lib.Seq.{length-take-le, take_at, drop_at, drop-drop}
+use Rattle.model.specs.Lists.{each, joined}
+use Rattle.model.specs.Bytes.{big_endian}
+use Rattle.model.specs.Blocks.{size}
+use Rattle.model.specs.Files.{bytes}
 use Rattle.model.specs.Calls.{over}
-use Rattle.model.proofs.Lists.{length-joined}
-use Rattle.records.specs.Runs.{onto}
+use Rattle.model.specs.declared.Group.{Group}
+use Rattle.model.proofs.Lists.{length-each, length-joined}
+use Rattle.records.specs.declared.Run.{Run}
+use Rattle.records.specs.Runs.{words_at, words, onto}
 
 module _ (area : List ℕ) (to : ℕ) where
-  pub onto-none : area ≡ onto to [] area
-  onto-none = rw (add-zero, append-nil, take-append-drop)
-
-  pub onto-one : (x : ℕ) → to < length area → set area to x ≡ onto to (x ∷ []) area
-  onto-one x h = set_split area to x h ∙ rw (append_snoc, add-one)
+  pub onto_none : area ≡ onto to [] area
+  onto_none = rw (add-zero, append-nil, take-append-drop)
 
   module _ (ws : List ℕ) where
-    pub length-onto : to + length ws ≤ length area → length (onto to ws area) ≡ length area
-    length-onto h =
-        let front : length (take to area) ≡ to = length-take-le to area (omega arith) in
-        simp (length-append, length-drop) (omega (arith, front))
-
     -- words behind words
     pub onto-more : (vs : List ℕ) (k : ℕ) → to + length ws ≤ length area → k ≡ to + length ws → onto k vs (onto to ws area) ≡ onto to (ws ++ vs) area
     onto-more vs k h e =
@@ -34,30 +31,32 @@ module _ (area : List ℕ) (to : ℕ) where
         let head = take to area ++ ws in
         rw (take_at head behind k front, ← drop-drop (length vs) k (head ++ behind), drop_at head behind k front, drop-drop (length vs) (to + length ws) area, far, append_assoc (take to area) ws vs)
 
+-- so many more words find room
+pub room_for : (to k i n room : ℕ) → i < n → to + k * n ≤ room → to + k * i + k ≤ room
+room_for to k i n room h l = omega (arith, mul-le-mul_left k h)
+
 pub over-onto : (ws area : List ℕ) → over ws area ≡ onto 0 ws area
 over-onto ws area = rw zero-add
 
--- i pieces, each of k words
-pub record Copied (piece : ℕ → List ℕ) (k : ℕ) (before : List ℕ) (to i : ℕ) (now : List ℕ) : Type 0 where
-  pub words : now ≡ onto to (joined piece i) before
-  pub same : length now ≡ length before
+-- ---- the records of a run
 
--- so many more pieces find room
-pub room_for : (k i n : ℕ) → i < n → k * i + k ≤ k * n
-room_for k i n h = omega (arith, mul-le-mul_left k h)
+module _ (file : List ℕ) (g : Group) where
+  pub length-words : (run : Run) → length (words file g run) ≡ size g * run.count
+  length-words run =
+      length-joined (λ i. words_at file (run.at + bytes g * i + 2) (size g)) (size g) (λ i. length-each (λ j. big_endian file (run.at + bytes g * i + 2 + 4 * j)) (size g)) run.count
 
-module _ (piece : ℕ → List ℕ) (k : ℕ) (sized : (i : ℕ) → length (piece i) ≡ k) (before : List ℕ) (to : ℕ) where
-  pub begins : Copied piece k before to 0 before
-  unfolding joined
-  begins = record { words = onto-none before to; same = refl }
+  module _ (at i end : ℕ) where
+    abbrev first : Run
+    first = record { at = at; count = i; end = end }
 
-  pub goes_on : (i : ℕ) (now later : List ℕ) → Copied piece k before to i now → to + k * i + k ≤ length before → later ≡ onto (to + k * i) (piece i) now
-      → Copied piece k before to (i + 1) later
-  unfolding joined
-  goes_on i now later s h e =
-      let long = length-joined piece k sized i in
-      let more = onto-more before to (joined piece i) (piece i) (to + k * i) (omega (arith, long)) (omega (arith, long)) in
-      record {
-        words = e ∙ ap (onto (to + k * i) (piece i)) s.words ∙ more ∙ rw add-one;
-        same = ap length e ∙ length-onto now (to + k * i) (piece i) (omega (arith, s.same, sized i)) ∙ s.same;
-      }
+    abbrev more : Run
+    more = record { at = at; count = i + 1; end = end }
+
+    -- one record more
+    pub one_more : (each step : ℕ) → each ≡ size g → step ≡ bytes g → (before now later : List ℕ) (to : ℕ) → now ≡ onto to (words file g first) before
+        → to + each * i + each ≤ length before → later ≡ onto (to + each * i) (words_at file (at + step * i + 2) each) now
+        → later ≡ onto to (words file g more) before
+    unfolding joined
+    one_more each step d b before now later to e room h =
+        let long = length-words first in
+        rw (h, d, b, e, add-one) (onto-more before to (words file g first) (words_at file (at + bytes g * i + 2) (size g)) (to + size g * i) (omega (arith, long, rw d at room)) (omega (arith, long)))

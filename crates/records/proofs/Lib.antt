@@ -4,7 +4,6 @@ mod Reading
 mod Records
 mod Faults
 mod Copied
-mod Pieces
 mod Contents
 mod Blocks
 mod Answered

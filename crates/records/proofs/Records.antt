@@ -6,11 +6,10 @@ use mathlib.Core.Logic.{⊎_elim}
 use mathlib.Core.Path.{◌≡◌, refl, sym, ap, ◌∙◌}
 use mathlib.Core.Bool.{Bool, true, false}
 use mathlib.Core.List.{List, [], ◌∷◌, ◌++◌, append_assoc, append-nil}
-use mathlib.Core.Option.{Option, none, some}
 use borrow.Author.Tests.{lt-ltb, le-ltb, ltb-false, eq-eqb, ne_eqb}
 use lib.Dec.{eqb, ltb}
 use lib.ListN.{length}
-use Rattle.std.specs.Prelude.{if◌then◌else◌}
+use Rattle.std.specs.Prelude.{if◌then◌else◌, Option, Some, None}
 use Rattle.model.specs.Lists.{each}
 use Rattle.model.specs.Files.{turn, groups, Record, Held, whole, fault, behind, bytes, record_at, marked_by, record_there, records_from}
 use Rattle.model.specs.declared.Group.{Group}
@@ -59,16 +58,16 @@ module _ (file : List ℕ) where
     unfolding records_from record_there
     nothing f = go (marked_by file at groups) refl
       where
-        cut : (g : Group) → marked_by file at groups ≡ some g → (b : Bool) → ltb (turn g) now ≡ b
-            → record_there file at now (records_from most file) (some g) ≡ fault at
+        cut : (g : Group) → marked_by file at groups ≡ Some g → (b : Bool) → ltb (turn g) now ≡ b
+            → record_there file at now (records_from most file) (Some g) ≡ fault at
         cut g e true k = rw k
         cut g e false k =
             let short = not_there file at g (found_marked file at groups g e) (f g (ltb-false (turn g) now k)) in
             rw (k, lt-ltb (length file) (at + bytes g) short)
 
         go : (o : Option Group) → marked_by file at groups ≡ o → record_there file at now (records_from most file) o ≡ fault at
-        go none e = refl
-        go (some g) e = cut g e (ltb (turn g) now) refl
+        go None e = refl
+        go (Some g) e = cut g e (ltb (turn g) now) refl
 
   -- ---- the records that were passed
 

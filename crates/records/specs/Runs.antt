@@ -1,13 +1,13 @@
 -- A file as it is scanned: the records of a group stand one after the other. Assumes nothing: these are definitions.
-use Rattle.std.specs.Prelude.{ℕ, ◌+◌, ◌*◌, ◌≤◌, ◌<◌, ◌≡◌, Bool, true, false, ◌&&◌, List, [], ◌∷◌, ◌++◌, leb, length, take, drop}
+use Rattle.std.specs.Prelude.{ℕ, ◌+◌, ◌*◌, ◌≤◌, ◌<◌, ◌≡◌, Bool, true, false, ◌&&◌, List, [], ◌∷◌, ◌++◌, leb, length, take, drop, Result, Ok, Err}
 use Rattle.model.specs.Lists.{each, joined}
 use Rattle.model.specs.Bytes.{big_endian}
 use Rattle.model.specs.Blocks.{size}
 use Rattle.model.specs.Files.{Record, whole, fault, file_limit, bytes, record_at, marked, held}
 use Rattle.model.specs.declared.Group.{Group}
+use Rattle.model.specs.declared.Refusal.{Refusal}
 use Rattle.records.specs.declared.Run.{Run}
 use Rattle.records.specs.declared.Runs.{Runs}
-use Rattle.records.specs.declared.Ending.{Ending}
 
 -- a record of the group stands at a place, with all its bytes
 unfoldable pub stands : List ℕ → Group → ℕ → Bool
@@ -82,10 +82,10 @@ pub record Few (s : Runs) : Type 0 where
   pub few_tables : s.tables.count ≤ file_limit
   pub few_rules : s.rules.count ≤ file_limit
 
--- how a scanned file ends: whole, or with a fault
-abbrev pub Ends : List ℕ → Runs → Ending → Type 0
-Ends file s Ending.Whole = Whole file s
-Ends file s (Ending.Fault at) = held file ≡ fault at
+-- how a scanned file ends: whole, or refused for its first fault
+abbrev pub Ends : List ℕ → Runs → Result (Unit {0}) Refusal → Type 0
+Ends file s (Ok _) = Whole file s
+Ends file s (Err why) = (at : ℕ) × (why ≡ Refusal.File at) × (held file ≡ fault at)
 
 -- an area with words at a place
 abbrev pub onto : ℕ → List ℕ → List ℕ → List ℕ

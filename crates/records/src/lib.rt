@@ -4,11 +4,11 @@
 
 ghost use Rattle.std.specs.Prelude.{◌≡◌, ◌+◌, ◌*◌, ◌≤◌, length, ltb, if◌then◌else◌};
 ghost use Rattle.model.specs.Blocks.{size};
-ghost use Rattle.model.specs.Files.{mark, marked, bytes, file_limit};
+ghost use Rattle.model.specs.Files.{mark, bytes, file_limit};
 ghost use Rattle.model.specs.Calls.{over, Loads};
 ghost use Rattle.records.specs.Runs.{stands, Reads, Scanned, words, Ends, Whole, Few, words_at, counts, pipeline_in, pipeline_words, onto};
 
-use model::{Group, Loaded, Refusal};
+use model::{Blocks, Group, Refusal};
 
 // A file is at most so many bytes.
 const LIMIT: usize = 40000;
@@ -22,12 +22,12 @@ fn mark(g: Group) -> [u8; 2]
     ensures { result ≡ mark g }
 {
     match g {
-        Group::Field => [b'F', b'D'],
-        Group::Node => [b'N', b'D'],
-        Group::Action => [b'A', b'C'],
-        Group::Table => [b'T', b'B'],
-        Group::Rule => [b'R', b'L'],
-        Group::Root => [b'R', b'T'],
+        Group::Field => *b"FD",
+        Group::Node => *b"ND",
+        Group::Action => *b"AC",
+        Group::Table => *b"TB",
+        Group::Rule => *b"RL",
+        Group::Root => *b"RT",
     }
 }
 
@@ -52,23 +52,13 @@ fn bytes(g: Group) -> usize
     MARK_BYTES + WORD_BYTES * size(g)
 }
 
-fn marked(file: &[u8], g: Group, at: usize) -> bool
-    requires { at + 2 ≤ length file.now }
-    ensures { result ≡ marked file.now at g }
-{
-    let m = mark(g);
-    file[at] == m[0] && file[at + 1] == m[1]
-}
-
 // A record of the group stands at a place, with all its bytes.
+#[tactic(auto, unfolding(crate::specs::Runs::stands))]
 fn stands(file: &[u8], g: Group, at: usize) -> bool
     requires { at ≤ length file.now }
     ensures { result ≡ stands file.now g at }
 {
-    if file.len() - at < bytes(g) {
-        return false;
-    }
-    marked(file, g, at)
+    file.len() - at >= bytes(g) && file[at..].starts_with(&mark(g))
 }
 
 // The records of a group that stand one after the other: where the first begins, how many there are, where the last ends.
@@ -84,16 +74,15 @@ fn read(file: &[u8], g: Group, at: usize) -> Run
     ensures { Reads file.now g at result }
 {
     let step = bytes(g);
-    let mut end = at;
-    let mut count = 0;
-    while stands(file, g, end) {
-        end += step;
-        count += 1;
-    }
+    let first = mark(g);
+    let count = file[at..]
+        .chunks_exact(step)
+        .take_while(|record| record.starts_with(&first))
+        .count();
     Run {
-        at: at,
-        count: count,
-        end: end,
+        at,
+        count,
+        end: at + step * count,
     }
 }
 
@@ -116,57 +105,48 @@ fn scan(file: &[u8]) -> Runs
     let tables = read(file, Group::Table, actions.end);
     let rules = read(file, Group::Rule, tables.end);
     Runs {
-        fields: fields,
-        nodes: nodes,
-        actions: actions,
-        tables: tables,
-        rules: rules,
+        fields,
+        nodes,
+        actions,
+        tables,
+        rules,
     }
 }
 
-// How a file ends.
-#[derive(Clone, Copy)]
-pub enum Ending {
-    Whole,
-    Fault(usize),
-}
-
-// A file that is too long has a fault at the limit; the first is given.
-fn within_limit(at: usize) -> usize
-    ensures { result ≡ (if ltb file_limit at then file_limit else at) }
+// The refusal of a fault. A file that is too long has a fault at the limit; the first is given.
+fn fault(at: usize) -> Refusal
+    ensures { result ≡ Refusal.File (if ltb file_limit at then file_limit else at) }
 {
-    if LIMIT < at { LIMIT } else { at }
+    Refusal::File(at.min(LIMIT))
 }
 
 // Behind the runs stands the root, which ends the file, or the first fault.
-fn end_of(file: &[u8], s: Runs) -> Ending
+fn end_of(file: &[u8], s: Runs) -> Result<(), Refusal>
     requires { Scanned file.now s }
     ensures { Ends file.now s result }
 {
     let root = s.rules.end;
     if !stands(file, Group::Root, root) {
-        return Ending::Fault(within_limit(root));
+        return Err(fault(root));
     }
     let end = root + bytes(Group::Root);
     if end != file.len() {
-        return Ending::Fault(within_limit(end));
+        return Err(fault(end));
     }
     if LIMIT < end {
-        return Ending::Fault(LIMIT);
+        return Err(Refusal::File(LIMIT));
     }
-    Ending::Whole
+    Ok(())
 }
 
-// Copies so many words at a place of the file to a place of the area.
-fn copy_words(file: &[u8], at: usize, count: usize, area: &mut [u32], to: usize)
-    requires words_in_bounds { at + 4 * count ≤ length file.now }
-    requires area_has_room { to + count ≤ length area.old }
-    ensures { area.new ≡ onto to (words_at file.now at count) area.old }
+// Copies the words that stand at a place of the file.
+#[tactic(auto, unfolding(model::specs::Lists::each))]
+fn copy_words(file: &[u8], at: usize, words: &mut [u32])
+    requires { at + 4 * length words.old ≤ length file.now }
+    ensures { words.new ≡ words_at file.now at (length words.old) }
 {
-    let mut i = 0;
-    while i < count {
-        area[to + i] = octets::word(file, at + WORD_BYTES * i);
-        i += 1;
+    for (i, word) in words.iter_mut().enumerate() {
+        *word = octets::word(file, at + WORD_BYTES * i);
     }
 }
 
@@ -179,16 +159,13 @@ fn copy_run(file: &[u8], g: Group, run: Run, area: &mut [u32], to: usize) -> usi
 {
     let step = bytes(g);
     let each = size(g);
-    let mut i = 0;
-    while i < run.count {
+    for i in 0..run.count {
+        let place = to + each * i;
         copy_words(
             file,
             run.at + step * i + MARK_BYTES,
-            each,
-            area,
-            to + each * i,
+            &mut area[place..place + each],
         );
-        i += 1;
     }
     to + each * run.count
 }
@@ -237,7 +214,7 @@ fn write_pipeline(file: &[u8], s: Runs, pipeline: &mut [u32])
     areas::put(&head, pipeline);
     let at = s.rules.end;
     let root = Run {
-        at: at,
+        at,
         count: 1,
         end: at + bytes(Group::Root),
     };
@@ -250,32 +227,35 @@ fn write_pipeline(file: &[u8], s: Runs, pipeline: &mut [u32])
 
 // 12, and then the two blocks.
 #[tactic(auto, using(crate::proofs::Contents::inside, crate::proofs::Contents::few))]
-fn load_whole(file: &[u8], s: Runs, pipeline: &mut [u32], rules: &mut [u32]) -> Loaded
+fn load_whole(
+    file: &[u8],
+    s: Runs,
+    pipeline: &mut [u32],
+    rules: &mut [u32],
+) -> Result<Blocks, Refusal>
     requires { Whole file.now s }
     ensures { Loads file.now pipeline.old rules.old result pipeline.new rules.new }
 {
     let words = pipeline_words(s);
     if pipeline.len() < words {
-        return Loaded::Refused(Refusal::Room(words));
+        return Err(Refusal::Room(words));
     }
     let rule_words = run_words(Group::Rule, s.rules);
     if rules.len() < rule_words {
-        return Loaded::Refused(Refusal::Room(rule_words));
+        return Err(Refusal::Room(rule_words));
     }
     write_pipeline(file, s, pipeline);
     copy_run(file, Group::Rule, s.rules, rules, 0);
-    Loaded::Blocks {
+    Ok(Blocks {
         pipeline: words,
         rules: rule_words,
-    }
+    })
 }
 
-pub fn load(file: &[u8], pipeline: &mut [u32], rules: &mut [u32]) -> Loaded
+pub fn load(file: &[u8], pipeline: &mut [u32], rules: &mut [u32]) -> Result<Blocks, Refusal>
     ensures { Loads file.now pipeline.old rules.old result pipeline.new rules.new }
 {
     let s = scan(file);
-    match end_of(file, s) {
-        Ending::Whole => load_whole(file, s, pipeline, rules),
-        Ending::Fault(at) => Loaded::Refused(Refusal::File(at)),
-    }
+    end_of(file, s)?;
+    load_whole(file, s, pipeline, rules)
 }

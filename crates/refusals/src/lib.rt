@@ -1,4 +1,5 @@
-// The number of a refusal in document 01's table, and its place.
+// The number of a refusal in document 01's table, and its place. C is told these numbers, so they stand here as the table has them: `as` gives
+// an enum's numbers only where no case has a place.
 #![tactic(auto)]
 
 ghost use Rattle.std.specs.Prelude.{◌≡◌, [], ◌∷◌};
@@ -31,14 +32,12 @@ pub fn number(r: Refusal) -> u64
     }
 }
 
-// Its place: 0 where it names none.
+// Its place. C is told 0 where it names none.
 pub fn place(r: Refusal) -> u64
     ensures { values_in (refusal_of r) ≡ result ∷ [] }
 {
     match r {
-        Refusal::Counts => 0,
-        Refusal::Root => 0,
-        Refusal::True => 0,
+        Refusal::Counts | Refusal::Root | Refusal::True => 0,
         Refusal::File(at)
         | Refusal::Width(at)
         | Refusal::Node(at)

@@ -6,48 +6,50 @@ ghost use Rattle.std.specs.Prelude.{◌≡◌, List, ℕ, ◌≤◌, length};
 ghost use Rattle.model.specs.Blocks.{F};
 ghost use Rattle.model.specs.Good.{Within};
 ghost use Rattle.model.specs.Runs.{packet_widths, start, pipeline_run};
-ghost use Rattle.model.specs.Demands.{Accepted};
-ghost use Rattle.states.specs.States.{state_in, EndsAs};
+ghost use Rattle.states.specs.States.{state_in, Answers};
 ghost use Rattle.runs.specs.Runnable.{Runnable, run_of};
 
-use actions::{Scope, program};
-use model::Kind;
-use states::{End, Ending, Side, State, applied, assign, end_of, havoc, next_side, taken, tested};
+use actions::Scope;
+use blocks::Program;
+use model::{Kind, Refusal};
+use states::{End, Ending, State, applied, assign, havoc, next_side, taken, tested};
 
 // The run of the statement at node n.
-fn run_at(p: &[u32], r: &[u32], choices: &[u32], scope: Scope, s: State, n: usize) -> End
-    requires { Runnable p.now r.now scope s n }
-    ensures { EndsAs p.now choices.now result
-        (run_of p.now r.now scope n (state_in p.now choices.now s)) }
+#[tactic(auto, using(crate::proofs::Steps::steps))]
+fn run_at(p: &Program, choices: &[u32], scope: Scope, s: State, n: usize) -> Result<End, Refusal>
+    requires { Runnable p.now.pipeline p.now.rules scope s n }
+    ensures { Answers p.now.pipeline choices.now result
+        (run_of p.now.pipeline p.now.rules scope n (state_in p.now.pipeline choices.now s)) }
 {
-    let node = blocks::node(p, n);
+    let pipeline = &p.pipeline;
+    let given = scope.given();
+    let node = pipeline.node(n);
     let a = node.a as usize;
     let b = node.b as usize;
     match nodes::kind_in(node.kind) {
-        Kind::Assign => assign(p, &scope.given, s, a, b),
-        Kind::Havoc => havoc(p, choices, s, a),
-        Kind::Assume => tested(p, &scope.given, s, a, Ending::Blocked(n)),
-        Kind::Assert => tested(p, &scope.given, s, a, Ending::Failed(n)),
+        Kind::Assign => Ok(assign(pipeline, &given, s, a, b)),
+        Kind::Havoc => havoc(pipeline, choices, s, a),
+        Kind::Assume => Ok(tested(pipeline, &given, s, a, Ending::Blocked(n))),
+        Kind::Assert => Ok(tested(pipeline, &given, s, a, Ending::Failed(n))),
         Kind::Sequence => {
-            let e = run_at(p, r, choices, scope, s, a);
-            let how = e.how;
-            if let Ending::Passed = how {
-                let next = e.state;
-                run_at(p, r, choices, scope, next, b)
-            } else {
-                e
+            let e = run_at(p, choices, scope, s, a)?;
+            match e.how {
+                Ending::Passed => run_at(p, choices, scope, e.state, b),
+                _ => Ok(e),
             }
         }
-        Kind::Choice => match next_side(choices, s.used, a, b) {
-            Side::Node(j) => run_at(p, r, choices, scope, taken(s), j),
-            Side::Wrong => end_of(s, Ending::Wrong),
-            Side::Short => end_of(s, Ending::Short),
-        },
-        Kind::Apply => {
-            let action = applied(p, r, s, a);
-            run_at(p, r, choices, action.scope, s, action.body)
+        Kind::Choice => {
+            let side = next_side(choices, s.used, a, b)?;
+            run_at(p, choices, scope, taken(s), side)
         }
-        _ => end_of(s, Ending::Passed),
+        Kind::Apply => {
+            let action = applied(p, s, a);
+            run_at(p, choices, action.scope, s, action.body)
+        }
+        _ => Ok(End {
+            state: s,
+            how: Ending::Passed,
+        }),
     }
 }
 
@@ -65,11 +67,11 @@ fn start(packet: &[u32]) -> State
 }
 
 // The run of the pipeline.
-pub fn run_whole(p: &[u32], r: &[u32], packet: &[u32], choices: &[u32]) -> End
-    requires accepted { Accepted p.now r.now }
-    requires within { Within (packet_widths p.now) packet.now }
-    ensures { EndsAs p.now choices.now result (pipeline_run p.now r.now packet.now choices.now) }
+#[tactic(auto, using(crate::proofs::Whole::packet_few, crate::proofs::Whole::runs_whole))]
+pub fn run_whole(p: &Program, packet: &[u32], choices: &[u32]) -> Result<End, Refusal>
+    requires { Within (packet_widths p.now.pipeline) packet.now }
+    ensures { Answers p.now.pipeline choices.now result (pipeline_run p.now.pipeline p.now.rules packet.now choices.now) }
 {
-    let root = blocks::root(p) as usize;
-    run_at(p, r, choices, program(), start(packet), root)
+    let root = p.pipeline.root() as usize;
+    run_at(p, choices, Scope::Program, start(packet), root)
 }

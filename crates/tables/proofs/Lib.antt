@@ -1,6 +1,5 @@
 -- Laws of lookups. A file cites files above it.
 pub mod Fitting
-pub mod Keys
 pub mod Order
 pub mod Scan
 pub mod Rest

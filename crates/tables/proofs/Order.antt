@@ -10,15 +10,12 @@ use mathlib.Core.List.{List, [], ◌∷◌, ◌++◌, append-nil}
 use lib.Dec.{eqb, ltb}
 use lib.ListN.{length}
 use borrow.Author.Tests.{lt-ltb, le-ltb, ltb-true, ltb-false}
-use Rattle.std.specs.Prelude.{if◌then◌else◌}
+use Rattle.std.specs.Prelude.{if◌then◌else◌, Option, Some, None}
 use Rattle.model.specs.Lists.{each, those, times, among}
-use Rattle.model.specs.Blocks.{R}
 use Rattle.model.specs.Tables.{tried_before, placed, ordered, first_that}
-use Rattle.model.specs.declared.Hit.{Hit}
 use Rattle.model.proofs.Every.{All, all-each, all_placed, all-ordered, all-those, all_with, among_here, among_there}
 use Rattle.model.proofs.Hits.{first-has}
-use Rattle.tables.specs.Next.{comes_after}
-use Rattle.tables.specs.Scan.{ordered_to, precedes, Settled}
+use Rattle.tables.specs.Scan.{ordered_to, precedes}
 
 -- Nothing is before itself, of two that differ exactly one is before the other, and what is before the first of them is before the second.
 pub record Order (before : ℕ → ℕ → Bool) : Type 0 where
@@ -38,15 +35,6 @@ tried_order r = record {
     go : (i j : ℕ) → (i ≡ j → ⊥) → (b : Bool) → ltb i j ≡ b → ltb j i ≡ not b
     go i j d true e = le-ltb j i (omega (arith, ltb-true i j e))
     go i j d false e = lt-ltb j i (omega (arith, ltb-false i j e))
-
-module _ (r : List ℕ) (count : ℕ) (e : count ≡ R r) where
-  -- up to a rule none comes after it
-  pub none_after : (after : ℕ) → after < count → (j : ℕ) → j < after + 1 → comes_after r after j ≡ false
-  none_after after h j k = rw (lt-ltb after (R r) (omega (arith, e))) (le-ltb after j (omega arith))
-
-  -- and none behind it is tried before it
-  pub settles : (best : ℕ) → best < count → Settled r best
-  settles best h = record { rule = omega (arith, e); first = λ j k l. le-ltb j best (omega arith) }
 
 -- ---- lists in an order
 
@@ -158,23 +146,23 @@ module _ (before : ℕ → ℕ → Bool) (o : Order before) where
     all-precedes : (i : ℕ) (xs : List ℕ) → All (λ x. before i x ≡ true) xs → precedes before i (first_that test xs) ≡ true
     all-precedes i xs h = go (first_that test xs) refl
       where
-        go : (f : Hit) → first_that test xs ≡ f → precedes before i f ≡ true
-        go (Hit.Rule j) e = first-has (λ x. before i x ≡ true) test xs j h e
-        go Hit.Default e = refl
+        go : (f : Option ℕ) → first_that test xs ≡ f → precedes before i f ≡ true
+        go (Some j) e = first-has (λ x. before i x ≡ true) test xs j h e
+        go None e = refl
 
     -- what is placed is found where it precedes what was found, and the test holds
     pub first-placed : (i : ℕ) (xs : List ℕ) → Sorted before xs
-        → first_that test (placed before i xs) ≡ (if precedes before i (first_that test xs) && test i then Hit.Rule i else first_that test xs)
+        → first_that test (placed before i xs) ≡ (if precedes before i (first_that test xs) && test i then Some i else first_that test xs)
     unfolding placed first_that
     first-placed i [] s = refl
     first-placed i (x ∷ xs) s = go (before i x) (test x) refl refl (first-placed i xs s.1)
       where
-        best : Bool → Hit
-        best c = if c then Hit.Rule x else first_that test xs
+        best : Bool → Option ℕ
+        best c = if c then Some x else first_that test xs
 
         go : (b c : Bool) → before i x ≡ b → test x ≡ c
-            → first_that test (placed before i xs) ≡ (if precedes before i (first_that test xs) && test i then Hit.Rule i else first_that test xs)
-            → first_that test (if b then i ∷ x ∷ xs else x ∷ placed before i xs) ≡ (if precedes before i (best c) && test i then Hit.Rule i else best c)
+            → first_that test (placed before i xs) ≡ (if precedes before i (first_that test xs) && test i then Some i else first_that test xs)
+            → first_that test (if b then i ∷ x ∷ xs else x ∷ placed before i xs) ≡ (if precedes before i (best c) && test i then Some i else best c)
         go true c e f rec = rw (← f, all-precedes i (x ∷ xs) (e, all_through i x xs e s.0))
         go false true e f rec = rw (e, f)
         go false false e f rec = rw f rec
@@ -244,5 +232,5 @@ module _ (before : ℕ → ℕ → Bool) (own : ℕ → Bool) where
 
     -- what is found first, with one more that belongs
     pub first-own : (test : ℕ → Bool) (n : ℕ) → own n ≡ true → let best = first_that test (ordered_to before own n) in
-        first_that test (ordered_to before own (n + 1)) ≡ (if precedes before n best && test n then Hit.Rule n else best)
+        first_that test (ordered_to before own (n + 1)) ≡ (if precedes before n best && test n then Some n else best)
     first-own test n e = rw (to_own n e) (first-placed before o test n (ordered_to before own n) (to_sorted n))

@@ -7,11 +7,10 @@ use mathlib.Core.List.{List, [], ◌∷◌}
 use lib.Dec.{eqb, ltb}
 use lib.ListN.{length}
 use borrow.Author.Tests.{eq-eqb, ne_eqb, eqb-true, eqb-false, lt-ltb, le-ltb}
-use Rattle.std.specs.Prelude.{if◌then◌else◌}
+use Rattle.std.specs.Prelude.{if◌then◌else◌, Option, Some, None}
 use Rattle.model.specs.Lists.{times, among}
 use Rattle.model.specs.Blocks.{R, table_of}
 use Rattle.model.specs.Tables.{tried_before, of_table, tried, first_that}
-use Rattle.model.specs.declared.Hit.{Hit}
 use Rattle.model.proofs.Every.{All, all_with}
 use Rattle.model.proofs.Times.{all_among}
 use Rattle.model.proofs.Hits.{first-has}
@@ -23,9 +22,9 @@ use Rattle.tables.proofs.Order.{Order, tried_order, Sorted, to_sorted, to_there,
 -- ---- a list from what is found in it
 
 -- as `rest_of`, of any list
-abbrev onward : List ℕ → Hit → List ℕ
-onward xs (Hit.Rule i) = from i xs
-onward xs Hit.Default = []
+abbrev onward : List ℕ → Option ℕ → List ℕ
+onward xs (Some i) = from i xs
+onward xs None = []
 
 from_head : (x : ℕ) (xs : List ℕ) → from x (x ∷ xs) ≡ x ∷ xs
 unfolding from
@@ -57,9 +56,9 @@ module _ (test : ℕ → Bool) where
   unfolding first_that
   onward-past x xs d e = rw e (go (first_that test xs) refl)
     where
-      go : (h : Hit) → first_that test xs ≡ h → onward (x ∷ xs) h ≡ onward xs h
-      go (Hit.Rule j) f = from_tail j x xs (first-has (λ y. y ≡ x → ⊥) test xs j d f)
-      go Hit.Default f = refl
+      go : (h : Option ℕ) → first_that test xs ≡ h → onward (x ∷ xs) h ≡ onward xs h
+      go (Some j) f = from_tail j x xs (first-has (λ y. y ≡ x → ⊥) test xs j d f)
+      go None f = refl
 
 -- ---- in an order
 
@@ -90,9 +89,9 @@ module _ (before : ℕ → ℕ → Bool) (o : Order before) where
 -- ---- the rules of a table
 
 module _ (r : List ℕ) (t : ℕ) where
-  rest_onward : (h : Hit) → rest_of r t h ≡ onward (tried r t) h
-  rest_onward (Hit.Rule i) = refl
-  rest_onward Hit.Default = refl
+  rest_onward : (h : Option ℕ) → rest_of r t h ≡ onward (tried r t) h
+  rest_onward (Some i) = refl
+  rest_onward None = refl
 
   tried_to : tried r t ≡ ordered_to (tried_before r) (of_table r t) (R r)
   unfolding tried ordered_to
@@ -104,13 +103,13 @@ module _ (r : List ℕ) (t : ℕ) where
       let all = all_with (OfTable r t) (λ i. test i ≡ true) (tried r t) (λ i m k. rw (le-ltb (R r) (R r) (omega arith))) (tried-below r t) in
       rest_onward (next_after r t (R r)) ∙ onward-all test (tried r t) all
 
-  pub next_there : (after i : ℕ) → next_after r t after ≡ Hit.Rule i → (i < R r) × (table_of r i ≡ t)
+  pub next_there : (after i : ℕ) → next_after r t after ≡ Some i → (i < R r) × (table_of r i ≡ t)
   next_there after i = first-has (OfTable r t) (comes_after r after) (tried r t) i (tried-below r t)
 
   next-before : (i : ℕ) → i < R r → next_after r t i ≡ first_that (tried_before r i) (tried r t)
   next-before i h = ap (λ (b : Bool). first_that (λ j. if b then tried_before r i j else true) (tried r t)) (lt-ltb i (R r) h)
 
-  pub next_rest : (i : ℕ) → i < R r → table_of r i ≡ t → rest_of r t (Hit.Rule i) ≡ i ∷ rest_of r t (next_after r t i)
+  pub next_rest : (i : ℕ) → i < R r → table_of r i ≡ t → rest_of r t (Some i) ≡ i ∷ rest_of r t (next_after r t i)
   next_rest i h e =
       let before = tried_before r in
       let own = of_table r t in
@@ -121,6 +120,6 @@ module _ (r : List ℕ) (t : ℕ) where
   tried-few : length (tried r t) ≤ R r
   tried-few = rw tried_to (to_few (tried_before r) (of_table r t) (tried_order r) (R r))
 
-  pub rest_few : (h : Hit) → length (rest_of r t h) ≤ R r
-  rest_few (Hit.Rule i) = omega (arith, few-from i (tried r t), tried-few)
-  rest_few Hit.Default = omega arith
+  pub rest_few : (h : Option ℕ) → length (rest_of r t h) ≤ R r
+  rest_few (Some i) = omega (arith, few-from i (tried r t), tried-few)
+  rest_few None = omega arith

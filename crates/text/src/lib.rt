@@ -1,38 +1,44 @@
-// Text in an area that is lent: each piece goes behind what stands there already, and the answer is where it ends.
+// Text in an area that is lent: each piece goes behind what stands there already.
 #![tactic(auto)]
 
-ghost use Rattle.std.specs.Prelude.{[], ◌∷◌, ◌+◌, ◌%◌, ◌≤◌, ◌<◌, length};
+ghost use Rattle.std.specs.Prelude.{◌≡◌, ◌+◌, ◌≤◌, length};
 ghost use Rattle.model.specs.Bytes.{decimal};
-ghost use Rattle.text.specs.Adds.{Adds};
+ghost use Rattle.text.specs.Adds.{Grows};
 
-pub fn put(bytes: &[u8], at: usize, out: &mut [u8]) -> usize
-    requires { at + length bytes.now ≤ length out.old }
-    ensures { Adds bytes.now at out.old result out.new }
-{
-    let mut i = 0;
-    while i < bytes.len() {
-        out[at + i] = bytes[i];
-        i += 1;
-    }
-    at + i
+use itoa::Buffer;
+
+// The area, and where the text in it ends.
+#[derive(Drop)]
+pub struct Text<'a> {
+    pub area: &'a mut [u8],
+    pub end: usize,
 }
 
-fn last_digit(n: u64, at: usize, out: &mut [u8]) -> usize
-    requires { at < length out.old }
-    ensures { Adds ((0x30 + n % 10) ∷ []) at out.old result out.new }
-{
-    out[at] = b'0' + (n % 10) as u8;
-    at + 1
-}
-
-// A number in decimal: the digits before the last are those of a tenth.
-pub fn decimal(n: u64, at: usize, out: &mut [u8]) -> usize
-    requires { at + length (decimal n) ≤ length out.old }
-    ensures { Adds (decimal n) at out.old result out.new }
-{
-    if n < 10 {
-        return last_digit(n, at, out);
+impl<'a> Text<'a> {
+    // No text yet.
+    pub fn new(area: &'a mut [u8]) -> Text<'a>
+        ensures same_area { result.area.ghost_name ≡ area.entry.ghost_name }
+        ensures bytes { result.area.now ≡ area.old }
+        ensures starts { result.end ≡ 0 }
+    {
+        Text { area, end: 0 }
     }
-    let end = decimal(n / 10, at, out);
-    last_digit(n, end, out)
+
+    pub fn put(&mut self, bytes: &[u8])
+        requires { self.old.end + length bytes.now ≤ length self.old.area.now }
+        ensures { Grows bytes.now self.old self.new }
+    {
+        let start = self.end;
+        self.end += bytes.len();
+        self.area[start..self.end].copy_from_slice(bytes);
+    }
+
+    // A number in decimal.
+    #[tactic(auto, using(crate::proofs::Decimals::as_printed))]
+    pub fn decimal(&mut self, n: u64)
+        requires { self.old.end + length (decimal n) ≤ length self.old.area.now }
+        ensures { Grows (decimal n) self.old self.new }
+    {
+        self.put(Buffer::new().format(n).as_bytes());
+    }
 }

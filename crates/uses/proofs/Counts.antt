@@ -6,17 +6,17 @@ use mathlib.Core.Path.{◌≡◌, refl, ap, sym, ◌∙◌}
 use mathlib.Core.Bool.{Bool, true, false}
 use mathlib.Core.List.{List, [], ◌∷◌, ◌++◌, append-nil, append_assoc}
 use lib.Dec.{eqb, ltb}
-use lib.ListN.{length, set, replicate, length-set, length-replicate, get_or-replicate}
+use lib.ListN.{length, take, get_or, set, replicate, length-set, length-replicate, get_or-replicate}
 use lib.Seq.{get_or-set_same, get_or-set_other}
-use borrow.Author.Tests.{eq-eqb, ne_eqb, eqb-true, eqb-false, le-ltb, ltb-true, ltb-false}
-use Rattle.std.specs.Prelude.{if◌then◌else◌}
+use borrow.Author.Tests.{ne_eqb, eqb-true, eqb-false, le-ltb, ltb-true, ltb-false}
+use Rattle.std.specs.Prelude.{Option, None, if◌then◌else◌}
 use Rattle.model.specs.Lists.{word, each, joined, times}
 use Rattle.model.specs.Blocks.{N, A, root, pipeline_node, body}
-use Rattle.model.specs.Nodes.{child_in, children}
+use Rattle.model.specs.Nodes.{children}
 use Rattle.model.specs.Refusals.{uses}
-use Rattle.model.specs.declared.Role.{Role}
 use Rattle.model.proofs.Times.{times-append, times-same, times_other}
-use Rattle.uses.specs.Counts.{capped, Counted, Adds}
+use Rattle.uses.specs.Counts.{there, all_there, capped, Counted, Adds}
+use Rattle.uses.proofs.There.{all_there-next}
 
 capped_low : (n : ℕ) → n ≤ 2 → capped n ≡ n
 unfolding capped
@@ -98,6 +98,11 @@ adds_none = record { more = λ xs h. rw append-nil h }
 pub adds_both : {xs ys before between after : List ℕ} → Adds xs before between → Adds ys between after → Adds (xs ++ ys) before after
 adds_both {xs} {ys} h k = record { more = λ zs c. rw (← append_assoc zs xs ys) (k.more (zs ++ xs) (h.more zs c)) }
 
+-- one child more, if it is there
+pub adds_next : (xs : List (Option ℕ)) (i : ℕ) {x : Option ℕ} {before between after : List ℕ} → i < length xs → get_or xs i None ≡ x
+    → Adds (all_there (take i xs)) before between → Adds (there x) between after → Adds (all_there (take (i + 1) xs)) before after
+adds_next xs i l e h k = rw (all_there-next xs i l, e) (adds_both h k)
+
 -- in a loop: none at the start, and those of the next place
 module _ (f : ℕ → List ℕ) where
   pub joined-none : {counts : List ℕ} → Adds (joined f 0) counts counts
@@ -108,22 +113,23 @@ module _ (f : ℕ → List ℕ) where
   unfolding joined
   joined-next i h k = rw add-one (adds_both h k)
 
+module _ (f : ℕ → ℕ) where
+  pub each-none : {counts : List ℕ} → Adds (each f 0) counts counts
+  unfolding each
+  each-none = adds_none
+
+  pub each-next : (i : ℕ) {before between after : List ℕ} → Adds (each f i) before between → Adds (f i ∷ []) between after → Adds (each f (i + 1)) before after
+  unfolding each
+  each-next i h k = rw add-one (adds_both h k)
+
 -- before anything is counted
 pub counted_none : Counted (replicate 1024 0) []
 unfolding capped times
 counted_none = record { sized = length-replicate {A = ℕ} 1024 0; at = λ x h. get_or-replicate {A = ℕ} 1024 x 0 0 h }
 
 -- whether a number is there exactly once
-module _ {counts xs : List ℕ} (h : Counted counts xs) where
-  pub counted-once : (i : ℕ) → i < 1024 → word counts i ≡ 1 → eqb (times i xs) 1 ≡ true
-  counted-once i l e = sym (capped-once (times i xs)) ∙ eq-eqb (capped (times i xs)) 1 (sym (h.at i l) ∙ e)
-
-  pub counted_not_once : (i : ℕ) → i < 1024 → (word counts i ≡ 1 → ⊥) → eqb (times i xs) 1 ≡ false
-  counted_not_once i l e = sym (capped-once (times i xs)) ∙ ne_eqb (capped (times i xs)) 1 (λ d. e (h.at i l ∙ d))
-
--- a word in its role
-pub role_adds : (role r : Role) (x : ℕ) {before after : List ℕ} → role ≡ r → Adds (child_in r x) before after → Adds (child_in role x) before after
-role_adds role r x e h = rw e h
+pub counted_once : {counts xs : List ℕ} → Counted counts xs → (i : ℕ) → i < 1024 → eqb (word counts i) 1 ≡ eqb (times i xs) 1
+counted_once {counts} {xs} h i l = rw (h.at i l) (capped-once (times i xs))
 
 -- the children, the bodies and the root are all uses
 pub counted-uses : (p : List ℕ) {nodes bodies all : List ℕ} {last : ℕ} → Adds (joined (λ i. children (pipeline_node p i)) (N p)) (replicate 1024 0) nodes

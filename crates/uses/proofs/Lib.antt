@@ -1,5 +1,5 @@
 -- Laws that the proofs of the functions share.
-pub mod Children
+pub mod There
 pub mod Counts
 pub mod Owners
 pub mod Placed

@@ -1,99 +1,102 @@
 -- Whether a parameter or an apply is in its place, from the owner of its node. Assumes nothing.
-use Prim.Native.Nat.{ℕ, zero, suc, ◌+◌, ◌-◌, ◌<◌, ◌≤◌}
+use Prim.Native.Nat.{ℕ, zero, suc, ◌<◌, ◌≤◌}
 use native.Mathlib.Omega.{arith}
-use mathlib.Core.Path.{◌≡◌, refl, sym, ◌∙◌}
-use mathlib.Core.Bool.{Bool, true, false, not, ◌&&◌}
+use mathlib.Core.Path.{◌≡◌, refl, sym, ap, ◌∙◌}
+use mathlib.Core.Bool.{Bool, true, false, not, not-not, ◌&&◌}
 use mathlib.Core.List.{List}
 use lib.Dec.{eqb, ltb}
-use borrow.Author.Tests.{ne_eqb, lt-ltb, le-ltb}
-use Rattle.std.specs.Prelude.{if◌then◌else◌}
-use Rattle.model.specs.Lists.{word, every, exists}
+use borrow.Author.Tests.{ne_eqb}
+use Rattle.std.specs.Prelude.{Option, Some, None, is_some, if◌then◌else◌}
+use Rattle.model.specs.Lists.{every, exists}
 use Rattle.model.specs.Blocks.{N, A, body, parameter_count, parameter_width, pipeline_node}
+use Rattle.model.specs.Nodes.{number_of, kinds, kind_in}
 use Rattle.model.specs.Refusals.{under_each, stands_under, placed_well}
+use Rattle.model.specs.declared.Kind.{Kind}
 use Rattle.model.proofs.Every.{exists-at, exists-none, every_one}
+use Rattle.model.proofs.KindNumbers.{kind_number, kind_in-number}
 use Rattle.model.proofs.Uses.{under_same}
-use Rattle.uses.specs.Owners.{Owned, has_parameter}
+use Rattle.uses.specs.Owners.{owner_of, Owned, has_parameter}
 
-module _ (p : List ℕ) {owners : List ℕ} (h : Owned p (A p) 0 owners) (x : ℕ) (l : x < N p) where
-  abbrev owner : ℕ
-  owner = word owners x
+-- an owner's number, by which owners are told apart
+abbrev number : Option ℕ → ℕ
+number None = zero
+number (Some k) = suc k
+
+number_some : (o : Option ℕ) (k : ℕ) → number o ≡ suc k → o ≡ Some k
+number_some None k e = let z : ◌≡◌ {A = ℕ} 0 (suc k) = e in absurd (omega arith)
+number_some (Some m) k e = let same : m ≡ k = omega arith in ap Some same
+
+-- what is asked of an owner, if there is one
+abbrev asked : (ℕ → Bool) → Option ℕ → Bool
+asked has None = false
+asked has (Some k) = has k
+
+module _ (p : List ℕ) {owners : List (Option ℕ)} (h : Owned p (A p) 0 owners) (x : ℕ) (l : x < N p) where
+  abbrev owner : Option ℕ
+  owner = owner_of owners x
 
   abbrev stands : ℕ → Bool
   stands k = stands_under p (under_each p) x k
 
   -- the node belongs to each action under whose body it stands: to none, or to one
-  owner_is : (k : ℕ) → k < A p → stands k ≡ true → owner ≡ k + 1
-  owner_is k d m = under_same p (word owners) (λ i c e n. h.handed i c (omega arith) e n) (body p k) x m ∙ h.bodies k d
+  owner_is : (k : ℕ) → k < A p → stands k ≡ true → owner ≡ Some k
+  owner_is k d m =
+      number_some owner k
+      (under_same p (λ i. number (owner_of owners i)) (λ i c e n. ap number (h.handed i c (omega arith) e n)) (body p k) x m ∙ ap number (h.bodies k d))
 
-  not_stands : (k : ℕ) → k < A p → (owner ≡ k + 1 → ⊥) → stands k ≡ false
+  not_stands : (k : ℕ) → k < A p → (owner ≡ Some k → ⊥) → stands k ≡ false
   not_stands k d n = go (stands k) refl
     where
       go : (b : Bool) → stands k ≡ b → b ≡ false
       go true e = absurd (n (owner_is k d e))
       go false e = refl
 
-  pub owner_low : owner ≤ A p
-  owner_low = go owner refl
-    where
-      go : (n : ℕ) → owner ≡ n → n ≤ A p
-      go zero e = omega arith
-      go (suc k) e = omega (arith, (h.stands x k l (omega arith)).0)
+  pub owner_low : (k : ℕ) → owner ≡ Some k → k < A p
+  owner_low k e = (h.stands x k l e).0
 
-  in_body : exists stands (A p) ≡ ltb 0 owner
+  in_body : exists stands (A p) ≡ is_some owner
   in_body = go owner refl
     where
-      go : (n : ℕ) → owner ≡ n → exists stands (A p) ≡ ltb 0 n
-      go zero e = exists-none stands (A p) (λ k d. not_stands k d (λ q. omega arith))
-      go (suc k) e =
-          let own = h.stands x k l (omega arith) in
-          exists-at stands (A p) k own.1 own.0 ∙ sym (lt-ltb 0 (suc k) (omega arith))
+      go : (o : Option ℕ) → owner ≡ o → exists stands (A p) ≡ is_some o
+      go None e = exists-none stands (A p) (λ k d. not_stands k d (λ q. cc))
+      go (Some k) e = let own = h.stands x k l e in exists-at stands (A p) k own.1 own.0
 
   -- what is asked of every action under whose body the node stands is asked of its owner
-  of_owner : (has : ℕ → Bool) → exists stands (A p) && every (λ k. if stands k then has k else true) (A p) ≡ ltb 0 owner && has (owner - 1)
+  of_owner : (has : ℕ → Bool) → exists stands (A p) && every (λ k. if stands k then has k else true) (A p) ≡ asked has owner
   of_owner has = rw in_body (go owner refl)
     where
       test : ℕ → Bool
       test k = if stands k then has k else true
 
-      go : (n : ℕ) → owner ≡ n → ltb 0 n && every test (A p) ≡ ltb 0 n && has (n - 1)
-      go zero e = refl
-      go (suc k) e =
-          let own = h.stands x k l (omega arith) in
-          let only : every test (A p) ≡ test k = every_one test (A p) k own.0 (λ i d n. rw (not_stands i d (λ q. n (omega arith)))) in
-          let last : suc k - 1 ≡ k = omega arith in
-          rw (lt-ltb 0 (suc k) (omega arith), only, own.1, last)
+      go : (o : Option ℕ) → owner ≡ o → is_some o && every test (A p) ≡ asked has o
+      go None e = refl
+      go (Some k) e =
+          let own = h.stands x k l e in
+          every_one test (A p) k own.0 (λ i d n. rw (not_stands i d (λ q. n (cc)))) ∙ rw own.1
 
-  pub placed_parameter : {r : Bool} → r ≡ has_parameter p owner (pipeline_node p x).a (pipeline_node p x).b → (pipeline_node p x).kind ≡ 3
-      → r ≡ placed_well p (under_each p) x
-  unfolding placed_well has_parameter
-  placed_parameter s e =
-      let a = (pipeline_node p x).a in
-      let b = (pipeline_node p x).b in
-      rw e (s ∙ sym (of_owner (λ k. ltb a (parameter_count p k) && eqb b (parameter_width p k a))))
+  has_asked : (o : Option ℕ) (a b : ℕ) → has_parameter p o a b ≡ asked (λ k. ltb a (parameter_count p k) && eqb b (parameter_width p k a)) o
+  has_asked None a b = refl
+  has_asked (Some k) a b = refl
 
-  pub placed-apply : (pipeline_node p x).kind ≡ 39 → eqb owner 0 ≡ placed_well p (under_each p) x
-  unfolding placed_well
-  placed-apply e = rw (e, in_body) (go owner)
-    where
-      go : (n : ℕ) → eqb n 0 ≡ not (ltb 0 n)
-      go zero = refl
-      go (suc k) = rw (lt-ltb 0 (suc k) (omega arith)) (ne_eqb (suc k) 0 (λ q. omega arith))
+  module _ {k : Kind} (e : k ≡ kind_in kinds (pipeline_node p x).kind) where
+    numbered : (o : Kind) → 1 ≤ number_of o → k ≡ o → (pipeline_node p x).kind ≡ number_of o
+    numbered o h d = kind_number kinds (pipeline_node p x).kind o h (sym e ∙ d)
 
-  pub placed_other : ((pipeline_node p x).kind ≡ 3 → ⊥) → ((pipeline_node p x).kind ≡ 39 → ⊥) → true ≡ placed_well p (under_each p) x
-  unfolding placed_well
-  placed_other e d = rw (ne_eqb (pipeline_node p x).kind 3 e, ne_eqb (pipeline_node p x).kind 39 d)
+    other : (o : Kind) → (k ≡ o → ⊥) → (pipeline_node p x).kind ≡ number_of o → ⊥
+    other o n d = n (e ∙ (rw d (kind_in-number o)))
 
--- the three ways of the test of an owner
-module _ (p : List ℕ) (owner a b : ℕ) where
-  pub has-none : owner ≡ 0 → false ≡ has_parameter p owner a b
-  unfolding has_parameter
-  has-none e = rw e
+    pub placed_parameter : {r : Bool} → r ≡ has_parameter p owner (pipeline_node p x).a (pipeline_node p x).b → k ≡ Kind.Parameter
+        → r ≡ placed_well p (under_each p) x
+    unfolding placed_well
+    placed_parameter s d =
+        let a = (pipeline_node p x).a in
+        let b = (pipeline_node p x).b in
+        rw (numbered Kind.Parameter (omega arith) d) (s ∙ has_asked owner a b ∙ sym (of_owner (λ k. ltb a (parameter_count p k) && eqb b (parameter_width p k a))))
 
-  pub has_not : (owner ≡ 0 → ⊥) → parameter_count p (owner - 1) ≤ a → false ≡ has_parameter p owner a b
-  unfolding has_parameter
-  has_not n h = rw (lt-ltb 0 owner (omega arith), le-ltb a (parameter_count p (owner - 1)) h)
+    pub placed-apply : {r : Bool} → is_some owner ≡ not r → k ≡ Kind.Apply → r ≡ placed_well p (under_each p) x
+    unfolding placed_well
+    placed-apply {r} s d = rw (numbered Kind.Apply (omega arith) d, in_body, s) (sym (not-not r))
 
-  pub has_width : {width : ℕ} → (owner ≡ 0 → ⊥) → a < parameter_count p (owner - 1) → width ≡ parameter_width p (owner - 1) a
-      → eqb b width ≡ has_parameter p owner a b
-  unfolding has_parameter
-  has_width n h e = rw (lt-ltb 0 owner (omega arith), lt-ltb a (parameter_count p (owner - 1)) h, e)
+    pub placed_other : (k ≡ Kind.Parameter → ⊥) → (k ≡ Kind.Apply → ⊥) → true ≡ placed_well p (under_each p) x
+    unfolding placed_well
+    placed_other n m = rw (ne_eqb (pipeline_node p x).kind 3 (other Kind.Parameter n), ne_eqb (pipeline_node p x).kind 39 (other Kind.Apply m))

@@ -1,8 +1,17 @@
 -- How often the nodes are used, kept in an area of bytes. Assumes nothing: these are definitions.
-use Rattle.std.specs.Prelude.{ℕ, ◌<◌, ◌≡◌, List, ◌++◌, eqb, ltb, length, if◌then◌else◌}
-use Rattle.model.specs.Lists.{word, first_place, times}
+use Rattle.std.specs.Prelude.{ℕ, ◌<◌, ◌≡◌, Option, Some, None, List, [], ◌∷◌, ◌++◌, eqb, ltb, length, if◌then◌else◌}
+use Rattle.model.specs.Lists.{word, first_not, times}
 use Rattle.model.specs.Blocks.{N}
 use Rattle.model.specs.Refusals.{uses}
+
+-- the number that is there, if one is; those that are
+abbrev pub there : Option ℕ → List ℕ
+there None = []
+there (Some x) = x ∷ []
+
+abbrev pub all_there : List (Option ℕ) → List ℕ
+all_there [] = []
+all_there (x ∷ xs) = there x ++ all_there xs
 
 -- 0, 1, and 2 for more
 unfoldable pub capped : ℕ → ℕ
@@ -18,9 +27,9 @@ pub record Adds (ys before after : List ℕ) : Type 0 where
   pub more : (xs : List ℕ) → Counted before xs → Counted after (xs ++ ys)
 
 -- the first of n numbers that doesn't stand exactly once in a list
-abbrev pub first_not_once : List ℕ → ℕ → ℕ
-first_not_once xs n = first_place (λ i. eqb (times i xs) 1) n
+abbrev pub first_not_once : List ℕ → ℕ → Option ℕ
+first_not_once xs n = first_not (λ i. eqb (times i xs) 1) n
 
--- 8: the first node that is not used exactly once, or N
-abbrev pub first_miscounted : List ℕ → ℕ
+-- 8: the first node that is not used exactly once, if there is one
+abbrev pub first_miscounted : List ℕ → Option ℕ
 first_miscounted p = first_not_once (uses p) (N p)

@@ -37,72 +37,50 @@ pub record Skips (k : Kind) : Type 0 where
   pub choice : k ≡ Kind.Choice → ⊥
   pub apply : k ≡ Kind.Apply → ⊥
 
+-- what is no value reads as the constant of width 0, what is no test as false, and what is no statement as skip
+record Rest (k : Kind) (x : Tree) : Type 0 where
+  value : NoValue k → as_value x ≡ Val.constant 0 0
+  test : NoTest k → as_test x ≡ Test.truth false
+  skips : Skips k → as_statement x ≡ Stmt.skip
+
+of_value : {k : Kind} {v : Val} → (NoValue k → ⊥) → Rest k (Tree.value v)
+of_value is = record { value = λ h. absurd (is h); test = λ h. refl; skips = λ h. refl }
+
+of_test : {k : Kind} {t : Test} → (NoTest k → ⊥) → Rest k (Tree.test t)
+of_test is = record { value = λ h. refl; test = λ h. absurd (is h); skips = λ h. refl }
+
+of_statement : {k : Kind} {s : Stmt} → (Skips k → ⊥) → Rest k (Tree.statement s)
+of_statement is = record { value = λ h. refl; test = λ h. refl; skips = λ h. absurd (is h) }
+
 module _ (given : List ℕ) (tree : ℕ → Tree) (i : ℕ) where
+  rest : (k : Kind) (a b c : ℕ) → Rest k (tree_by given tree i k a b c)
+  rest Kind.Constant a b c = of_value (λ h. h.constant refl)
+  rest Kind.Field a b c = of_value (λ h. h.field refl)
+  rest Kind.Parameter a b c = of_value (λ h. h.parameter refl)
+  rest (Kind.Binary o) a b c = of_value (λ h. h.binary o refl)
+  rest Kind.Complement a b c = of_value (λ h. h.complement refl)
+  rest Kind.Slice a b c = of_value (λ h. h.slice refl)
+  rest Kind.Join a b c = of_value (λ h. h.join refl)
+  rest Kind.Select a b c = of_value (λ h. h.select refl)
+  rest Kind.Truth a b c = of_test (λ h. h.truth refl)
+  rest (Kind.Compare o) a b c = of_test (λ h. h.compare o refl)
+  rest Kind.Not a b c = of_test (λ h. h.not refl)
+  rest (Kind.Connect o) a b c = of_test (λ h. h.connect o refl)
+  rest Kind.Skip a b c = record { value = λ h. refl; test = λ h. refl; skips = λ h. refl }
+  rest Kind.Assign a b c = of_statement (λ h. h.assign refl)
+  rest Kind.Havoc a b c = of_statement (λ h. h.havoc refl)
+  rest Kind.Assume a b c = of_statement (λ h. h.assume refl)
+  rest Kind.Assert a b c = of_statement (λ h. h.assert refl)
+  rest Kind.Sequence a b c = of_statement (λ h. h.sequence refl)
+  rest Kind.Choice a b c = of_statement (λ h. h.choice refl)
+  rest Kind.Apply a b c = of_statement (λ h. h.apply refl)
+  rest Kind.Unknown a b c = record { value = λ h. refl; test = λ h. refl; skips = λ h. refl }
+
   pub no_value : (k : Kind) (a b c : ℕ) → NoValue k → as_value (tree_by given tree i k a b c) ≡ Val.constant 0 0
-  no_value Kind.Constant a b c h = absurd (h.constant refl)
-  no_value Kind.Field a b c h = absurd (h.field refl)
-  no_value Kind.Parameter a b c h = absurd (h.parameter refl)
-  no_value (Kind.Binary o) a b c h = absurd (h.binary o refl)
-  no_value Kind.Complement a b c h = absurd (h.complement refl)
-  no_value Kind.Slice a b c h = absurd (h.slice refl)
-  no_value Kind.Join a b c h = absurd (h.join refl)
-  no_value Kind.Select a b c h = absurd (h.select refl)
-  no_value Kind.Truth a b c h = refl
-  no_value (Kind.Compare o) a b c h = refl
-  no_value Kind.Not a b c h = refl
-  no_value (Kind.Connect o) a b c h = refl
-  no_value Kind.Skip a b c h = refl
-  no_value Kind.Assign a b c h = refl
-  no_value Kind.Havoc a b c h = refl
-  no_value Kind.Assume a b c h = refl
-  no_value Kind.Assert a b c h = refl
-  no_value Kind.Sequence a b c h = refl
-  no_value Kind.Choice a b c h = refl
-  no_value Kind.Apply a b c h = refl
-  no_value Kind.Unknown a b c h = refl
+  no_value k a b c = (rest k a b c).value
 
   pub no_test : (k : Kind) (a b c : ℕ) → NoTest k → as_test (tree_by given tree i k a b c) ≡ Test.truth false
-  no_test Kind.Constant a b c h = refl
-  no_test Kind.Field a b c h = refl
-  no_test Kind.Parameter a b c h = refl
-  no_test (Kind.Binary o) a b c h = refl
-  no_test Kind.Complement a b c h = refl
-  no_test Kind.Slice a b c h = refl
-  no_test Kind.Join a b c h = refl
-  no_test Kind.Select a b c h = refl
-  no_test Kind.Truth a b c h = absurd (h.truth refl)
-  no_test (Kind.Compare o) a b c h = absurd (h.compare o refl)
-  no_test Kind.Not a b c h = absurd (h.not refl)
-  no_test (Kind.Connect o) a b c h = absurd (h.connect o refl)
-  no_test Kind.Skip a b c h = refl
-  no_test Kind.Assign a b c h = refl
-  no_test Kind.Havoc a b c h = refl
-  no_test Kind.Assume a b c h = refl
-  no_test Kind.Assert a b c h = refl
-  no_test Kind.Sequence a b c h = refl
-  no_test Kind.Choice a b c h = refl
-  no_test Kind.Apply a b c h = refl
-  no_test Kind.Unknown a b c h = refl
+  no_test k a b c = (rest k a b c).test
 
   pub skips_on : (k : Kind) (a b c : ℕ) → Skips k → as_statement (tree_by given tree i k a b c) ≡ Stmt.skip
-  skips_on Kind.Constant a b c h = refl
-  skips_on Kind.Field a b c h = refl
-  skips_on Kind.Parameter a b c h = refl
-  skips_on (Kind.Binary o) a b c h = refl
-  skips_on Kind.Complement a b c h = refl
-  skips_on Kind.Slice a b c h = refl
-  skips_on Kind.Join a b c h = refl
-  skips_on Kind.Select a b c h = refl
-  skips_on Kind.Truth a b c h = refl
-  skips_on (Kind.Compare o) a b c h = refl
-  skips_on Kind.Not a b c h = refl
-  skips_on (Kind.Connect o) a b c h = refl
-  skips_on Kind.Skip a b c h = refl
-  skips_on Kind.Assign a b c h = absurd (h.assign refl)
-  skips_on Kind.Havoc a b c h = absurd (h.havoc refl)
-  skips_on Kind.Assume a b c h = absurd (h.assume refl)
-  skips_on Kind.Assert a b c h = absurd (h.assert refl)
-  skips_on Kind.Sequence a b c h = absurd (h.sequence refl)
-  skips_on Kind.Choice a b c h = absurd (h.choice refl)
-  skips_on Kind.Apply a b c h = absurd (h.apply refl)
-  skips_on Kind.Unknown a b c h = refl
+  skips_on k a b c = (rest k a b c).skips

@@ -15,7 +15,7 @@ use Rattle.values.specs.Ready.{Ready}
 pub ready : (p r packet : List ℕ) → Accepted p r → Within (widths p) packet → Ready p packet
 ready p r packet e h =
     let good = accepted-good p r e in
-    record { whole = good.counts.pipeline_words; below = accepted-children p r e; narrow = good.widths_good; within = h }
+    record { below = accepted-children p r e; narrow = good.widths_good; within = h }
 
 module _ {p packet : List ℕ} (r : Ready p packet) {i : ℕ} (h : i < length (widths p)) where
   pub field_below : i < F p

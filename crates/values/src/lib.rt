@@ -3,14 +3,14 @@
 
 ghost use Rattle.std.specs.Prelude.{◌≡◌, ℕ, ◌+◌, ◌^◌, ◌≤◌, ◌<◌, length};
 ghost use Rattle.bits.specs.Width.{fits};
-ghost use Rattle.model.specs.Lists.{word, first_place};
+ghost use Rattle.model.specs.Lists.{word, first_not};
 ghost use Rattle.model.specs.Blocks.{N, widths};
 ghost use Rattle.model.specs.Trees.{as_value, as_test, tree, of_width, binary_bits, complement_bits, slice_bits, join_bits, compare_bits, connected, bits_of, truth_of, bits_in};
 ghost use Rattle.model.specs.Good.{GoodValue, GoodTest};
 ghost use Rattle.values.specs.Ready.{Ready};
 
 use bits::Op;
-use blocks::word_in;
+use blocks::{Pipeline, word_in};
 use model::{Bits, Comparison, Connective, Kind};
 
 pub fn of_width(width: u32, number: u32) -> Bits
@@ -46,7 +46,7 @@ pub fn slice_bits(x: Bits, high: u32, low: u32) -> Bits
 pub fn join_bits(x: Bits, y: Bits) -> Bits
     requires width_bound { x.width + y.width ≤ 32 }
     requires number_bound { x.number < 2 ^ x.width }
-    requires number_bound_2 { y.number < 2 ^ y.width }
+    requires y_bound { y.number < 2 ^ y.width }
     ensures { result ≡ join_bits x y }
 {
     of_width(x.width + y.width, bits::join(y.width, x.number, y.number))
@@ -70,24 +70,24 @@ pub fn connected(o: Connective, x: bool, y: bool) -> bool
     }
 }
 
-fn field_bits(p: &[u32], packet: &[u32], i: u32) -> Bits
+fn field_bits(p: &Pipeline, packet: &[u32], i: u32) -> Bits
     requires ready { Ready p.now packet.now }
     requires i_in_bounds { i < length (widths p.now) }
     ensures { result ≡ bits_in (widths p.now) packet.now i }
 {
     let at = i as usize;
-    of_width(blocks::width(p, at), packet[at])
+    of_width(p.width(at), packet[at])
 }
 
 // The bits of the value at node n. What is no value is no bits.
 #[cycle(bits_at_truth_at)]
-pub fn bits_at(p: &[u32], given: &[u32; 2], packet: &[u32], n: usize) -> Bits
+pub fn bits_at(p: &Pipeline, given: &[u32; 2], packet: &[u32], n: usize) -> Bits
     requires ready { Ready p.now packet.now }
     requires n_bound { n < N p.now }
     requires good_value { GoodValue (widths p.now) (as_value (tree p.now given.now n)) }
     ensures { result ≡ bits_of (bits_in (widths p.now) packet.now) (as_value (tree p.now given.now n)) }
 {
-    let node = blocks::node(p, n);
+    let node = p.node(n);
     let a = node.a as usize;
     let b = node.b as usize;
     let c = node.c as usize;
@@ -120,13 +120,13 @@ pub fn bits_at(p: &[u32], given: &[u32; 2], packet: &[u32], n: usize) -> Bits
 
 // Whether the test at node n holds. What is no test does not.
 #[cycle(bits_at_truth_at)]
-pub fn truth_at(p: &[u32], given: &[u32; 2], packet: &[u32], n: usize) -> bool
+pub fn truth_at(p: &Pipeline, given: &[u32; 2], packet: &[u32], n: usize) -> bool
     requires ready { Ready p.now packet.now }
     requires n_bound { n < N p.now }
     requires good_test { GoodTest (widths p.now) (as_test (tree p.now given.now n)) }
     ensures { result ≡ truth_of (bits_in (widths p.now) packet.now) (as_test (tree p.now given.now n)) }
 {
-    let node = blocks::node(p, n);
+    let node = p.node(n);
     let a = node.a as usize;
     let b = node.b as usize;
     match nodes::kind_in(node.kind) {
@@ -146,20 +146,11 @@ pub fn truth_at(p: &[u32], given: &[u32; 2], packet: &[u32], n: usize) -> bool
     }
 }
 
-// The first value of a packet or of a valuation that doesn't fit its width, or the count.
-pub fn first_wide(widths: &[u32], numbers: &[u32]) -> usize
+// The first value of a packet or of a valuation that doesn't fit its width.
+pub fn first_wide(widths: &[u32], numbers: &[u32]) -> Option<usize>
     requires numbers_len { length numbers.now ≡ length widths.now }
     requires by_index { (i : ℕ) → word widths.now i ≤ 32 }
-    ensures { result ≡ first_place (λ i. fits (word widths.now i) (word numbers.now i)) (length widths.now) }
+    ensures { result ≡ first_not (λ i. fits (word widths.now i) (word numbers.now i)) (length widths.now) }
 {
-    let count = widths.len();
-    let mut i = 0;
-    while i < count {
-        if bits::fits(widths[i], numbers[i]) {
-            i += 1;
-        } else {
-            return i;
-        }
-    }
-    i
+    places::first_not(|i| bits::fits(widths[i], numbers[i]), widths.len())
 }

@@ -1,5 +1,5 @@
 -- The equations of both sides of a choice, the choice, and the whole join. Assumes nothing.
-use Prim.Native.Nat.{ℕ, ◌-◌, ◌≤◌, ◌<◌}
+use Prim.Native.Nat.{ℕ, ◌-◌, ◌≤◌}
 use native.Mathlib.Omega.{arith}
 use mathlib.Core.Path.{◌≡◌, refl, ◌∙◌}
 use mathlib.Core.List.{List, [], ◌∷◌, append_assoc}
@@ -11,9 +11,9 @@ use Rattle.model.specs.Emit.{form_limit, emit_equations}
 use Rattle.model.specs.declared.Node.{Node}
 use Rattle.model.proofs.Lists.{length-each}
 use Rattle.pieces.specs.Pieces.{Emitted, Start}
-use Rattle.pieces.proofs.Pieces.{lent, back, beyond, fits_so}
+use Rattle.pieces.proofs.Pieces.{lent, back, fits_so}
 use Rattle.variables.specs.declared.Vars.{Vars}
-use Rattle.variables.specs.declared.Made.{Made}
+use Rattle.variables.specs.declared.place.Made.{Made}
 use Rattle.variables.specs.declared.Tied.{Tied}
 use Rattle.variables.specs.Variables.{Holds, few}
 use Rattle.variables.specs.Joined.{Joins, join_nodes, joined_of}
@@ -21,9 +21,6 @@ use Rattle.variables.specs.Sides.{field_vars, JoinsVars, Ties, choice_nodes}
 use Rattle.variables.proofs.Widths.{more}
 use Rattle.variables.proofs.Behind.{behind_fit, length_back}
 use Rattle.variables.proofs.Equations.{both_emitted, both_fit, both_onto}
-
-abbrev pub made : ℕ → Vars → Made
-made at v = record { at = at; vars = v }
 
 -- ---- the equations of both sides, and the choice
 
@@ -48,33 +45,29 @@ unfolding choice_nodes
 some ls rs zs left right at = simp length-append (omega arith)
 
 -- the variables v are those after the choice
-module _ (p : List ℕ) (before : Vars) (left right : Made) (v : Vars) {nodes nodes' area area' : List ℕ} {to : ℕ}
-    (j : JoinsVars new_where_differs (widths p) (field_vars p before) (field_vars p left.vars) (field_vars p right.vars) right.vars.next area area' v)
-    (e : Emitted (choice_nodes (field_vars p left.vars) (field_vars p right.vars) (field_vars p v) (left.at - 1) (right.at - 1) right.at) right.at
+module _ (p : List ℕ) (before : Vars) (left : ℕ) (lefts : Vars) (right : Made) (v : Vars) {nodes nodes' area area' : List ℕ} {to : ℕ}
+    (j : JoinsVars new_where_differs (widths p) (field_vars p before) (field_vars p lefts) (field_vars p right.vars) right.vars.next area area' v)
+    (e : Emitted (choice_nodes (field_vars p lefts) (field_vars p right.vars) (field_vars p v) (left - 1) (right.at - 1) right.at) right.at
     nodes nodes' to) where
   pub few-after : F p ≤ 32 → few right.at right.vars.next → to ≤ form_limit → few to v.next
   few-after h k m =
       let exact = e.exact (fits_so e m) in
-      let node = some (field_vars p left.vars) (field_vars p right.vars) (field_vars p v) (left.at - 1) (right.at - 1) right.at in
+      let node = some (field_vars p lefts) (field_vars p right.vars) (field_vars p v) (left - 1) (right.at - 1) right.at in
       omega (arith, length-each (width p) (F p), j.most)
 
-  module _ (start : List ℕ) (b l r : passive.Vars) (eb : field_vars p before ≡ b.current) (el : field_vars p left.vars ≡ l.current)
+  module _ (start : List ℕ) (b l r : passive.Vars) (eb : field_vars p before ≡ b.current) (el : field_vars p lefts ≡ l.current)
       (h : Holds p start area right.vars r) where
-    same : joined_vars new_where_differs right.vars.next (field_vars p before) (field_vars p left.vars) (field_vars p right.vars) ≡ joined_of b l r
+    same : joined_vars new_where_differs right.vars.next (field_vars p before) (field_vars p lefts) (field_vars p right.vars) ≡ joined_of b l r
     same = rw (eb, el, h.current, h.new)
 
     own : field_vars p v ≡ joined_of b l r
     own = rw (length-each (width p) (F p)) at j.joined ∙ same
 
-    pub joins : Joins p start b l r left.at right.at nodes nodes' area' (made to v)
+    pub joins : (few_variables : to ≤ form_limit → few to v.next)
+        → Joins p start b l r left right.at nodes nodes' area' (record { at = to; vars = v; few_variables = few_variables })
     unfolding join_nodes choice_nodes
-    joins = record {
+    joins few_variables = record {
       emitted = rw (el, h.current, own) at e;
       holds = λ _.
           more h (new_widths (next r) (widths p) (joined_of b l r)) (joined_of b l r) (rw (same, h.new) at j.written) own (rw (same, h.new) at j.number);
     }
-
--- nothing is said of what stands above the limit
-pub too_large : {p start nodes nodes' area : List ℕ} {b l r : passive.Vars} {left right : ℕ} {v : Vars} → form_limit < right
-    → Joins p start b l r left right nodes nodes' area (made right v)
-too_large h = record { emitted = beyond _ _ _ _ h; holds = λ k. absurd (omega arith) }

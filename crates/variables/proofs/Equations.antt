@@ -14,7 +14,7 @@ use Rattle.std.specs.Prelude.{if◌then◌else◌}
 use Rattle.model.specs.Passive.{Equation, equations}
 use Rattle.model.specs.Emit.{Side, past, form_limit, emit_equations}
 use Rattle.pieces.specs.Pieces.{Emitted, Start}
-use Rattle.pieces.proofs.Pieces.{lent, back, nothing, beyond}
+use Rattle.pieces.proofs.Pieces.{lent, back, nothing}
 use Rattle.variables.specs.declared.Tied.{Tied}
 use Rattle.variables.specs.Sides.{Ties, equation_nodes}
 use Rattle.variables.proofs.Behind.{behind_fit, length_back}
@@ -56,9 +56,6 @@ emit-append (e ∷ es) fs side at =
 no-equations : (side at : ℕ) (area : List ℕ) → Ties [] side at area area (tied at side)
 unfolding emit_equations
 no-equations side at area = record { emitted = nothing at area; onto = λ h. refl }
-
-pub too_far : {es : List Equation} {side at : ℕ} {area area' : List ℕ} → form_limit < at → Ties es side at area area' (tied at side)
-too_far h = record { emitted = beyond _ _ _ _ h; onto = λ k. absurd (omega arith) }
 
 pub same_variable : {own joined side at : ℕ} {area : List ℕ} → own ≡ joined
     → Ties (equations (own ∷ []) (joined ∷ [])) side at area area (tied at side)

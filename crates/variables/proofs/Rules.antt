@@ -1,4 +1,4 @@
--- Document 01's join rule; and the variables of a join, field by field, for any join rule. Assumes nothing.
+-- The variables of a join, field by field, for any join rule. Assumes nothing.
 use Prim.Native.Nat.{ℕ, suc, ◌+◌, ◌≤◌, ◌<◌}
 use native.Mathlib.Numerals.{add-one}
 use native.Mathlib.Nat.{add-zero}
@@ -6,21 +6,13 @@ use native.Mathlib.Omega.{arith}
 use mathlib.Core.Path.{◌≡◌, refl, sym, ◌∙◌}
 use mathlib.Core.Bool.{Bool, true, false}
 use mathlib.Core.List.{List, [], ◌∷◌, ◌++◌, append_assoc, append-nil}
-use borrow.Author.Tests.{eq-eqb, ne_eqb}
 use lib.Dec.{eqb}
 use lib.ListN.{length, take, drop, get_or, set, length-set, drop_of_length-le}
 use lib.Seq.{sets, drop-cons, take-suc-set}
 use Rattle.std.specs.Prelude.{if◌then◌else◌}
-use Rattle.model.specs.Passive.{JoinRule, new_where_differs, joined_vars, new_widths}
+use Rattle.model.specs.Passive.{JoinRule, joined_vars, new_widths}
 use Rattle.variables.specs.Variables.{vars}
 use Rattle.variables.specs.Sides.{Sized, Numbered, JoinsVars}
-
-module _ (before left right new : ℕ) where
-  pub keeps : left ≡ right → left ≡ new_where_differs before left right new
-  keeps e = rw (eq-eqb left right e)
-
-  pub differs : (left ≡ right → ⊥) → new ≡ new_where_differs before left right new
-  differs d = rw (ne_eqb left right d)
 
 -- ---- one field
 
@@ -31,13 +23,6 @@ after t new = if t then suc new else new
 bumped : (t : Bool) (new : ℕ) → after t new ≤ new + 1
 bumped true new = omega arith
 bumped false new = omega arith
-
-module _ (z new w : ℕ) (area : List ℕ) where
-  pub new-one : {area' : List ℕ} → z ≡ new → area' ≡ set area new w → Numbered z new w area area' (new + 1)
-  new-one e put = record { number = rw (eq-eqb z new e) (add-one new); written = rw (eq-eqb z new e) put }
-
-  pub no-new-one : (z ≡ new → ⊥) → Numbered z new w area area new
-  no-new-one d = record { number = rw (ne_eqb z new d); written = rw (ne_eqb z new d) }
 
 module _ (w : ℕ) (ws zs : List ℕ) (new : ℕ) where
   counted : (t : Bool) → new + length (if t then w ∷ new_widths (suc new) ws zs else new_widths new ws zs)

@@ -4,7 +4,7 @@ use native.Mathlib.Omega.{arith}
 use mathlib.Core.Path.{◌≡◌, ap, sym, ◌∙◌}
 use mathlib.Core.List.{List, [], ◌∷◌, ◌++◌}
 use lib.ListN.{length, take, get_or, set, length-append, length-drop}
-use lib.Seq.{sets, sets-eq, length-sets, take-append_seam, drop-append-add, drop-drop, take-set-lt, length-take-le}
+use lib.Seq.{sets, sets-eq, length-sets, take-append_seam, drop-append-add, drop-drop, take-set-lt}
 use Rattle.model.specs.Blocks.{F, width, widths}
 use Rattle.model.specs.Passive as passive
 use Rattle.model.specs.Passive.{next}
@@ -12,15 +12,6 @@ use Rattle.model.specs.Calls.{over}
 use Rattle.model.proofs.Lists.{length-each, each_at}
 use Rattle.variables.specs.declared.Vars.{Vars}
 use Rattle.variables.specs.Variables.{Holds, vars}
-
--- ---- the first words
-
-module _ (count fields : ℕ) (ws : List ℕ) {lent : List ℕ} (is : lent ≡ take count ws) (e : count ≡ fields) where
-  pub first-fields : lent ≡ take fields ws
-  first-fields = rw (is, e)
-
-  pub first-length : fields ≤ length ws → length lent ≡ fields
-  first-length h = ap length first-fields ∙ length-take-le fields ws h
 
 -- ---- the widths
 

@@ -5,7 +5,7 @@ use Rattle.model.specs.Passive.{Vars, vars, next, new_where_differs, joined_vars
 use Rattle.model.specs.Emit.{past, form_limit}
 use Rattle.model.specs.declared.Node.{Node}
 use Rattle.pieces.specs.Pieces.{Emitted}
-use Rattle.variables.specs.declared.Made.{Made}
+use Rattle.variables.specs.declared.place.Made.{Made}
 use Rattle.variables.specs.Variables.{Holds}
 use Rattle.variables.specs.Sides.{choice_nodes}
 

@@ -9,12 +9,4 @@ returns-then-p-lt-HEAD c = rw (lt-leb _ _ c.if-p-lt-HEAD.true)
 
 pub returns : goal.returns
 unfolding counts_well
-returns c = rw (
-  le-leb 5 _ c.if-p-lt-HEAD.false,
-  c.both.ensures,
-  c.rule_count.ensures,
-  c.both-rules.ensures,
-  c.both-pipeline.ensures,
-  c.limits_well.ensures,
-  c.length.ensures,
-)
+returns c = rw (le-leb 5 _ c.if-p-lt-HEAD.false, c.limits_well.ensures, c.length.ensures)

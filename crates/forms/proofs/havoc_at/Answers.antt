@@ -3,4 +3,4 @@ use Rattle.forms.proofs.Writes.{havoc_writes}
 use Rattle.forms.proofs.havoc_at.Goals as goal
 
 pub returns : goal.returns
-returns c = havoc_writes (λ _. c.requires.few) _ _ _ (rw c.node.ensures at c.node_behind-to.ensures.behind) c.made.ensures (c.fresh.ensures.next_value, c.fresh.ensures.by_index)
+returns c = havoc_writes _ _ _ (rw c.of_kind.ensures at c.node_behind.ensures.behind) (c.fresh.ensures.next_value, c.fresh.ensures.holds)

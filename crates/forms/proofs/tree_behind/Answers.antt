@@ -2,4 +2,4 @@
 use Rattle.forms.proofs.tree_behind.Goals as goal
 
 pub returns-clause-behind : goal.returns-clause-behind
-returns-clause-behind c = rw (← c.fields.ensures.result_value) c.child_behind.ensures.behind
+returns-clause-behind c = rw (← c.fields-current.ensures.value) c.child_behind.ensures.behind

@@ -1,6 +1,6 @@
 -- `lister::line` meets its contract. Assumes nothing.
-use Rattle.lister.proofs.Written.{line_adds}
+use Rattle.lister.proofs.Written.{line_grows}
 use Rattle.lister.proofs.line.Goals as goal
 
-pub returns-clause-adds : goal.returns-clause-adds
-returns-clause-adds c = search line_adds
+pub returns-clause-grows : goal.returns-clause-grows
+returns-clause-grows c = search line_grows

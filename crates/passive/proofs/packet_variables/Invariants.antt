@@ -1,10 +1,6 @@
 -- The invariants of `passive::packet_variables`. Assumes nothing.
-use Prim.Native.Nat.{◌-◌}
 use Rattle.passive.proofs.Formed.{Numbered}
 use Rattle.passive.proofs.packet_variables.Given as goal
 
 abbrev pub invariant-loop-i : goal.invariant-loop-i
 invariant-loop-i l = Numbered l.current l.i
-
-abbrev pub decreases-loop-i : goal.decreases-loop-i
-decreases-loop-i l = 32 - l.i

@@ -5,7 +5,7 @@ use Rattle.pieces.proofs.+child_behind_tree_at.Goals as goal
 use Rattle.pieces.proofs.+child_behind_tree_at.Goals.{tree_at-After-roles-roles}
 
 -- what is known where the node has been read
-here : (t : ℕ) (c : tree_at-After-roles-roles t) → Here c.args.p.now c.args.given.now c.args.n t c.node-read.result c.kind_in.result c.roles-roles.result
+here : (t : ℕ) (c : tree_at-After-roles-roles t) → Here c.args.p.now c.args.given.now c.args.n t c.node-read.result c.kind_in-kind.result c.roles-roles.result
 here t c =
     record {
       start = c.decreases;
@@ -13,7 +13,7 @@ here t c =
       below = c.requires.n_bound;
       good = c.requires.expression;
       words = c.node-read.ensures;
-      is_kind = c.kind_in.ensures;
+      is_kind = c.kind_in-kind.ensures;
       are = c.roles-roles.ensures;
     }
 

@@ -1,10 +1,8 @@
 -- The invariants of `records::copy_run`. Assumes nothing.
-use Prim.Native.Nat.{◌-◌}
-use Rattle.records.proofs.Pieces.{Records}
+use mathlib.Core.Path.{◌≡◌}
+use Rattle.records.specs.Runs.{words, onto}
 use Rattle.records.proofs.copy_run.Given as goal
 
+-- the words of the run's first records are copied
 abbrev pub invariant-loop-i : goal.invariant-loop-i
-invariant-loop-i l = Records l.file l.run l.initial.area l.to l.step l.each l.i l.area
-
-abbrev pub decreases-loop-i : goal.decreases-loop-i
-decreases-loop-i l = l.run.count - l.i
+invariant-loop-i l = l.area ≡ onto l.to (words l.file l.fn.g (record { at = l.run.at; count = l.i; end = l.run.end })) l.initial.area

@@ -1,12 +1,9 @@
 -- `runner::check_packet` meets its contract. Assumes nothing.
-use Rattle.runner.proofs.Started.{packet-judged}
+use Rattle.runner.proofs.Started.{value_refuses, packet_passes}
 use Rattle.runner.proofs.check_packet.Goals as goal
 
-pub returns-then-packet-widths : goal.returns-then-packet-widths
-returns-then-packet-widths c = search packet-judged
+pub returns-in-Some : goal.returns-in-Some
+returns-in-Some c = search value_refuses
 
-pub returns-then-i-widths : goal.returns-then-i-widths
-returns-then-i-widths c = search packet-judged
-
-pub returns : goal.returns
-returns c = search packet-judged
+pub returns-in-None : goal.returns-in-None
+returns-in-None c = search packet_passes

@@ -1,15 +1,12 @@
 -- `runner::check_start` meets its contract. Assumes nothing.
-use Rattle.runner.proofs.Started.{check-whole, check-narrow, start-on, start_refuses}
+use Rattle.std.proofs.lemmas.Result.{err_from_is_err_and}
+use Rattle.runner.proofs.Started.{start_refuses, started}
 use Rattle.runner.proofs.check_start.Goals as goal
 
-pub check_packet-requires-clause-whole : goal.check_packet-requires-clause-whole
-check_packet-requires-clause-whole c = search (check-whole, check-narrow)
+pub returns-in_err-p : goal.returns-in_err-p
+returns-in_err-p c =
+    let q = err_from_is_err_and c.from_residual.result c.from_residual.ensures.1 in
+    rw (q.1, q.2) (start_refuses c.args.pipeline.now c.args.rules.now c.args.packet.now _ c.in_err-p.ensures.answers)
 
-pub check_packet-requires-clause-by_index : goal.check_packet-requires-clause-by_index
-check_packet-requires-clause-by_index c = search (check-whole, check-narrow)
-
-pub returns-in-Accepted : goal.returns-in-Accepted
-returns-in-Accepted c = search start-on
-
-pub returns-in-Refused : goal.returns-in-Refused
-returns-in-Refused c = search start_refuses
+pub returns : goal.returns
+returns c = started _ _ _ _ c.in_ok-p.ensures.blocks.0 c.in_ok-p.ensures.blocks.1 c.in_ok-check_packet.ensures

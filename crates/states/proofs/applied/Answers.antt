@@ -1,10 +1,6 @@
 -- `states::applied` meets its contract. Assumes nothing.
-use Rattle.std.proofs.Common.{rules}
-use Rattle.states.proofs.Actions.{hit_there, tables_lent}
+use Rattle.tables.proofs.Fitting.{fitting}
 use Rattle.states.proofs.applied.Goals as goal
 
-pub hit-requires : goal.hit-requires
-hit-requires c = search tables_lent
-
-pub action_of-requires-clause-by_index : goal.action_of-requires-clause-by_index
-action_of-requires-clause-by_index c = search (rules, hit_there)
+pub hit-hit-requires : goal.hit-hit-requires
+hit-hit-requires c = rw c.values.ensures (fitting _ _ _ c.args.p.now.accepted c.requires.stands.ready.within)

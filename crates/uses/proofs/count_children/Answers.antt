@@ -6,10 +6,10 @@ use Rattle.uses.proofs.Counts.{joined-none, joined-next}
 use Rattle.uses.proofs.count_children.Goals as goal
 
 pub loop-i-init : goal.loop-i-init
-loop-i-init c = (omega arith, joined-none _)
+loop-i-init c = joined-none _
 
 pub loop-i-preserved : goal.loop-i-preserved
-loop-i-preserved c = (omega arith, joined-next _ _ c.loop-i.invariant.1 c.count_node.ensures)
+loop-i-preserved c = joined-next _ _ c.loop-i.invariant (rw c.node.ensures at c.count_node.ensures)
 
 pub returns : goal.returns
-returns c = let e : c.loop-i.i ≡ N c.args.p.now = omega arith in rw e at c.loop-i.invariant.1
+returns c = let e : c.loop-i.i ≡ N c.args.p.now = omega arith in rw e at c.loop-i.invariant

@@ -1,5 +1,4 @@
 -- The invariants of `uses::count_children`. Assumes nothing.
-use Prim.Native.Nat.{◌≤◌, ◌-◌}
 use Rattle.model.specs.Lists.{joined}
 use Rattle.model.specs.Blocks.{pipeline_node}
 use Rattle.model.specs.Nodes.{children}
@@ -7,7 +6,4 @@ use Rattle.uses.specs.Counts.{Adds}
 use Rattle.uses.proofs.count_children.Given as goal
 
 abbrev pub invariant-loop-i : goal.invariant-loop-i
-invariant-loop-i l = (l.i ≤ l.n) × Adds (joined (λ j. children (pipeline_node l.p j)) l.i) l.initial.counts l.counts
-
-abbrev pub decreases-loop-i : goal.decreases-loop-i
-decreases-loop-i l = l.n - l.i
+invariant-loop-i l = Adds (joined (λ j. children (pipeline_node l.p j)) l.i) l.initial.counts l.counts

@@ -2,5 +2,5 @@
 use Rattle.uses.proofs.Owners.{owned_none}
 use Rattle.uses.proofs.first_misplaced.Goals as goal
 
-pub own_bodies-requires-clause-owned : goal.own_bodies-requires-clause-owned
-own_bodies-requires-clause-owned c = owned_none _ c.requires.p_bound
+pub own_bodies-requires : goal.own_bodies-requires
+own_bodies-requires c = owned_none c.args.p.now c.requires.nodes

@@ -2,8 +2,8 @@
 use Rattle.values.proofs.Ready.{field_below, field-held, field-width}
 use Rattle.values.proofs.field_bits.Goals as goal
 
-pub width-requires-clause-i_bound : goal.width-requires-clause-i_bound
-width-requires-clause-i_bound c = field_below c.requires.ready c.requires.i_in_bounds
+pub width-requires : goal.width-requires
+width-requires c = record { i_bound = field_below c.requires.ready c.requires.i_in_bounds }
 
 pub bounds-packet-at : goal.bounds-packet-at
 bounds-packet-at c = field-held c.requires.ready c.requires.i_in_bounds

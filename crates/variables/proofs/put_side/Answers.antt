@@ -7,4 +7,4 @@ pub loop-i-init : goal.loop-i-init
 loop-i-init c = begins
 
 pub loop-i-preserved : goal.loop-i-preserved
-loop-i-preserved c = goes_on c.requires c.loop-i.invariant (search rules) c.start-s.ensures c.put_equation-t.ensures c.put_equation-t.auto.nodes
+loop-i-preserved c = goes_on c.requires c.loop-i.invariant (search rules) c.start-s.ensures c.put_equation-tied.ensures c.put_equation-tied.auto.nodes

@@ -1,2 +1,0 @@
--- Laws of writing into an area.
-mod Written

@@ -1,8 +1,0 @@
--- `uses::own_bodies` meets its contract: the bodies of the actions before `k` belong to their actions. Assumes nothing.
-use native.Mathlib.Omega.{arith}
-use Rattle.uses.proofs.Owners.{owned_body}
-use Rattle.uses.proofs.own_bodies.Goals as goal
-
-pub loop-k-preserved : goal.loop-k-preserved
-loop-k-preserved c =
-    (omega arith, owned_body _ c.requires.p_bound c.requires.used_once c.loop-k.k (omega arith) c.loop-k.invariant.1 (rw c.body.ensures at c.own.ensures))
