@@ -8,15 +8,15 @@ use Rattle.actions.specs.declared.Action.{Action}
 use Rattle.actions.specs.declared.Scope.{Scope}
 
 abbrev pub program_scope : Scope
-program_scope = Scope.Program
+program_scope = Scope.Program no_data
 
 abbrev pub in_body : Scope → Bool
-in_body Scope.Program = false
+in_body (Scope.Program given) = false
 in_body (Scope.Body given) = true
 
--- the data that stand for the parameters; the program has none
+-- the data that stand for the parameters; the program has no parameters
 abbrev pub given_in : Scope → List ℕ
-given_in Scope.Program = no_data
+given_in (Scope.Program given) = given
 given_in (Scope.Body given) = given
 
 -- the body of the action that is called, with its data
@@ -33,7 +33,7 @@ tables_in false p = T p
 abbrev pub statement_of : List ℕ → Scope → ℕ → Stmt
 statement_of p scope n = as_statement (tree p (given_in scope) n)
 
--- node n of an accepted pipeline is a statement that may stand there
+-- node n of an accepted pipeline is a statement that may stand there (`accepted` stays here: laws speak of it apart from a `Program`)
 pub record IsStatement (p r : List ℕ) (scope : Scope) (n : ℕ) : Type 0 where
   pub accepted : Accepted p r
   pub below : n < N p

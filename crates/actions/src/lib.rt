@@ -9,21 +9,20 @@ ghost use Rattle.actions.specs.Scopes.{given_in, Calls};
 
 use blocks::{Pipeline, Program};
 
-// Where a statement stands: in the program, or inside an action's body with the data that stand for its parameters.
+// Where a statement stands: in the program, or inside an action's body; with the data that stand for its parameters.
 #[derive(Clone, Copy)]
 pub enum Scope {
-    Program,
+    Program([u32; 2]),
     Body([u32; 2]),
 }
 
 impl Scope {
-    // The data that stand for the parameters. The program has none, so that any data do.
+    // The data that stand for the parameters. The program has no parameters: any data would do.
     pub fn given(&self) -> [u32; 2]
         ensures { result ≡ given_in self.now }
     {
         match *self {
-            Scope::Program => [0; 2],
-            Scope::Body(given) => given,
+            Scope::Program(given) | Scope::Body(given) => given,
         }
     }
 }
@@ -50,7 +49,7 @@ fn action_at(p: &Pipeline, ws: &[u32], at: usize) -> Action
 #[tactic(auto, using(crate::proofs::Actions::rule_there, crate::proofs::Actions::default_there))]
 pub fn action_of(p: &Program, t: usize, hit: Option<usize>) -> Action
     requires t_bound { t < T p.now.pipeline }
-    requires by_index { (i : ℕ) → hit ≡ Some i → i < R p.now.rules }
+    requires there { (i : ℕ) → hit ≡ Some i → i < R p.now.rules }
     ensures { Calls p.now.pipeline result (call_of p.now.pipeline p.now.rules t hit) }
 {
     let pipeline = &p.pipeline;

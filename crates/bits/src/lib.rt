@@ -1,4 +1,5 @@
-// Arithmetic at a width of 1 to 32 bits, on u32. Sums and shifts go through u64, where a value of 33 bits has room.
+// Arithmetic at a width of 1 to 32 bits, on u32. Sums and shifts go through u64, where a value of 33 bits has room. That a width is at most 32
+// is a clause, and no type: callers have widths as words.
 #![tactic(auto)]
 
 ghost use Rattle.std.specs.Prelude.{◌≡◌, ◌-◌, ◌%◌, ◌^◌, ◌<◌, ◌≤◌};

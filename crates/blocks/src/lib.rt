@@ -57,7 +57,8 @@ pub fn node_at(ws: &[u32], at: usize) -> Node
     }
 }
 
-// A pipeline block that is as long as its counts ask for: every record is there. A clause sees its words.
+// A pipeline block that is as long as its counts ask for: every record is there. A clause sees its words. (A reader for each word that the page
+// names, though some differ in a place alone.)
 #[derive(Drop)]
 pub struct Pipeline<'a> {
     words: &'a [u32],

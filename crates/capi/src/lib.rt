@@ -1,4 +1,4 @@
-// The calls of document 01 for C, and for every language that can call C. No call asks anything of its arguments.
+// The calls of document 01 for C, and for every language that can call C. No call asks anything of its arguments, which are those of the page.
 #![tactic(auto)]
 
 ghost use Rattle.std.specs.Prelude.{◌≡◌, [], length};

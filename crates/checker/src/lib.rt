@@ -288,6 +288,7 @@ pub fn accept<'a>(pipeline: &'a [u32], rules: &'a [u32]) -> Result<Program<'a>, 
     let p = &limited.pipeline;
     let r = Rules::new(rules);
     check_fields(p)?;
+    // 1,024 places, since memory is fixed and Check lends none.
     let mut codes = [Code::malformed(); 1024];
     check_nodes(&limited, &mut codes)?;
     let sorted = Sorted {

@@ -155,9 +155,6 @@ module _ (p r : List ℕ) {t i m : ℕ} {h : Option ℕ} (there : t < T p) (of :
   pub of_rule : OfTable r t (Some i)
   of_rule = rw e at of
 
-  pub rule_asks : (rule_depth p < m) × ((t < T p) × (i < R r))
-  rule_asks = (omega (arith, start), (there, of_rule.0))
-
   pub rest_asks : (rest_depth p r t i < m) × ((t < T p) × OfTable r t (Some i))
   rest_asks = (omega (arith, rw (e, rest_is p r t i of_rule) at start), (there, of_rule))
 

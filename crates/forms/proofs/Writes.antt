@@ -1,8 +1,7 @@
 -- Laws of writing statements: one that keeps the variables, one that renews one of them, a sequence, a choice. Assumes nothing.
-use Prim.Native.Nat.{ℕ, ◌+◌, ◌-◌, ◌≤◌, ◌<◌}
+use Prim.Native.Nat.{ℕ, ◌+◌, ◌-◌, ◌≤◌}
 use native.Mathlib.Omega.{arith}
 use mathlib.Core.Path.{◌≡◌, ap, ◌∙◌}
-use mathlib.Core.Bool.{Bool}
 use mathlib.Core.List.{List, [], ◌∷◌}
 use lib.ListN.{length, take, get_or}
 use Rattle.model.specs.Blocks.{F, widths, node}
@@ -13,26 +12,18 @@ use Rattle.model.specs.Emit.{form_limit, emit_value, emit_test, emit}
 use Rattle.model.specs.declared.Comparison.{Comparison}
 use Rattle.pieces.specs.Pieces.{Behind, Start, emit_tree}
 use Rattle.pieces.specs.Sound.{IsValue, IsTest}
-use Rattle.guards.specs.Guards.{guard_test}
-use Rattle.pieces.proofs.Pieces.{lent, back, fits_so, lent_behind, pair_behind, one-behind, two-behind, beyond_behind, behind-some}
+use Rattle.pieces.proofs.Pieces.{lent, back, fits_so, lent_behind, pair_behind, one-behind, two-behind, behind-some}
 use Rattle.variables.specs.declared.Vars.{Vars as Held}
 use Rattle.variables.specs.declared.place.Made.{Made}
 use Rattle.variables.specs.Variables.{Holds, vars, few}
 use Rattle.variables.specs.Joined.{join_nodes, after_join, Joins}
 use Rattle.variables.specs.Sides.{choice_nodes}
-use Rattle.forms.specs.Writes.{Writes, Tests, JoinedBehind, guard_form, sequence_form, choice_form}
+use Rattle.forms.specs.Writes.{Writes, Tests, JoinedBehind, sequence_form, choice_form}
 
 -- ---- how many variables there are
 
 pub few-variables : {at next : ℕ} → few at next → at ≤ form_limit → next ≤ 10000000
 few-variables f h = omega arith
-
--- behind more nodes, and behind one more of them with one more variable
-pub few_kept : {at to next : ℕ} → (at ≤ form_limit → few at next) → at ≤ to → to ≤ form_limit → few to next
-few_kept f on k = let l = f (omega arith) in omega arith
-
-pub few_renewed : {at to next new : ℕ} → (at ≤ form_limit → few at next) → (to ≤ form_limit → at < to) → new ≡ next + 1 → to ≤ form_limit → few to new
-few_renewed f more e k = let l = more k in let n = f (omega arith) in omega arith
 
 -- ---- what a statement leaves
 
@@ -40,16 +31,6 @@ few_renewed f more e k = let l = more k in let n = f (omega arith) in omega arit
 holds-beside : {p lent widths₀ widths₁ : List ℕ} {v w : Held} {s l : Vars} → Holds p lent widths₀ v s → Holds p lent widths₁ w l
     → Holds p lent widths₁ (vars v.current w.next) (beside s l)
 holds-beside h k = record { current = h.current; new = k.new; widths = k.widths; same = k.same }
-
--- nothing is written above the limit
-pub beyond_writes : {p : List ℕ} {from : Made} {nodes : List ℕ} (make : Vars → Form) (area : List ℕ) → form_limit < from.at
-    → Writes p make from nodes nodes area area from
-beyond_writes {p} {from} {nodes} make area h = record {
-  onward = omega arith;
-  some = omega arith;
-  emitted = λ lent s g. beyond_behind (emit (make s).body) 0 from.at nodes h;
-  holds = λ lent s g k. absurd (omega arith);
-}
 
 -- `z` is `v` with a new variable for a field
 abbrev Renewed : List ℕ → Held → Held → ℕ → List ℕ → List ℕ → Type 0
@@ -164,14 +145,7 @@ module _ {p : List ℕ} {from m : Made} {nodes₀ nodes₁ : List ℕ} {x : Tree
       rw (← value_piece h x t, ← h.new)
       (one-behind (λ i. node 35 i 0 0) (two-behind (λ i j. node 17 i j 0) first s₁ second s₂ third) (s₃ ∙ s₂ ∙ s₁) last))
 
--- ---- guards and joins
-
-pub guard_writes : (p r : List ℕ) (i : ℕ) (negated : Bool) {from m : Made} {nodes₀ nodes₁ ws : List ℕ} → ws ≡ take (F p) from.vars.current
-    → Behind (emit (Passive.assume (renamed_test ws (guard_test p r i negated)))) 0 from.at nodes₀ nodes₁ m.at → 1 ≤ m.at → m.vars ≡ from.vars
-    → (area : List ℕ) → Writes p (guard_form p r i negated) from nodes₀ nodes₁ area area m
-guard_writes p r i negated e b some k area =
-    keeps b.onward some (λ s. Passive.assume (renamed_test s.current (guard_test p r i negated))) area k
-    (λ lent s h. rw (← h.current, ← e) b)
+-- ---- joins
 
 pub join-behind : (p : List ℕ) (v : Held) (l r : Made) {m : Made} {nodes ys area area' : List ℕ} {s : ℕ} → Start 0 r.at (length nodes) s
     → ((given : List ℕ) (x y z : Vars) → take (F p) v.current ≡ x.current → take (F p) l.vars.current ≡ y.current → Holds p given area r.vars z

@@ -1,5 +1,5 @@
 // The passive form of a statement, behind the nodes that stand in the area. Node numbers go on from one piece to the next; above the limit
-// nothing more is emitted, and the number says so.
+// nothing more is emitted, and the number says so. The two areas are lent apart, and not as a struct: parts of the nodes alone are lent on.
 #![tactic(auto)]
 
 ghost use Rattle.std.specs.Prelude.{◌≡◌, List, [], ◌∷◌, ℕ, Some, ◌-◌, ◌≤◌, ◌<◌, take};
@@ -200,6 +200,7 @@ pub fn statement_at(
     ensures { Writes p.now.pipeline (form_of p.now.pipeline p.now.rules scope n) from
         nodes.old nodes.new widths.old widths.new result }
 {
+    // (As `pieces::put_node`.)
     if LIMIT < from.at {
         return from;
     }

@@ -27,6 +27,7 @@ fn number(n: u64, last: u8, out: &mut Text)
     out.put(&[last]);
 }
 
+// (That a line has room is a clause: `Text` says nothing of how much is to come.)
 fn refusal(why: Refusal, out: &mut Text)
     requires { out.old.end + line_room ≤ length out.old.area.now }
     ensures { Grows (text_of (refused_as (refusal_of why))) out.old out.new }
@@ -65,7 +66,7 @@ fn line(i: usize, n: Node, out: &mut Text)
     number(n.c as u64, b'\n', out);
 }
 
-// A line for each of the first nodes.
+// A line for each of the first nodes. (Their count, and no part of the area: the definition counts them.)
 fn lines(nodes: &[u32], count: usize, out: &mut Text)
     requires count_in_bounds { 4 * count ≤ length nodes.now }
     requires lines_room_in_bounds { out.old.end + line_room * count ≤ length out.old.area.now }
@@ -115,7 +116,7 @@ pub fn listing(file: &[u8], out: &mut [u8; 252105]) -> usize
     written.end
 }
 
-// Room for the bytes of a file that decide its text, and for the text.
+// Room for the bytes of a file that decide its text, and for the text. (Two functions, since a clause says what each size is.)
 pub fn file_area() -> [u8; 40050]
     ensures { length result ≡ read_limit }
 {

@@ -100,7 +100,7 @@ pub struct Bits {
     pub number: u32,
 }
 
-// Where Lookup's three words stand, by the place of the first in its block.
+// Where Lookup's three words stand, by the place of the first in its block. Three cases, since C is told a number for each.
 #[derive(Clone, Copy)]
 pub enum Part {
     Rules(usize),

@@ -64,6 +64,7 @@ fn allowed(stage: Stage, number: u32) -> bool
     match stage {
         Stage::Pipeline => true,
         Stage::Passive => !pipeline_only(number),
+        // By number too: statements have numbers from 32 on.
         Stage::Condition => !pipeline_only(number) & (number < 32),
     }
 }
@@ -79,6 +80,7 @@ pub fn kind_of(stage: Stage, number: u32) -> Kind
     }
 }
 
+// Shorter than the literal, which stands in eight arms.
 fn are(a: Role, b: Role, c: Role) -> Roles
     ensures { result ≡ are a b c }
 {
@@ -161,6 +163,12 @@ impl Code {
         ensures { result ≡ sort_from byte }
     {
         Code { byte }
+    }
+
+    pub fn byte(self) -> u8
+        ensures { sort_from result ≡ self }
+    {
+        self.byte
     }
 
     // The sorts without a width. Functions, since of a constant a proof would see the byte in place of the sort.

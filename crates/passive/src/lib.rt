@@ -42,7 +42,7 @@ fn form_in(p: &Program, nodes: &mut [u32], widths: &mut [u32]) -> Made
         at: 0,
         vars: packet_variables(p),
     };
-    statement_at(p, Scope::Program, root, first, nodes, widths)
+    statement_at(p, Scope::Program([0; 2]), root, first, nodes, widths)
 }
 
 // 12, and then the form. The need is known before anything is written: on areas without room nothing is.
@@ -50,6 +50,7 @@ fn passify_checked(p: &Program, nodes: &mut [u32], widths: &mut [u32]) -> Result
     ensures { Passifies p.now.pipeline p.now.rules nodes.old widths.old result nodes.new widths.new }
 {
     let need = form_in(p, &mut [], &mut []);
+    // (A number, as `Emitted` says it: see `pieces::put_node`.)
     if LIMIT < need.at {
         return Err(Refusal::Room(0));
     }

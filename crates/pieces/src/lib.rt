@@ -1,6 +1,7 @@
 // The pieces of a passive form. Each is written at the start of the area that it is lent, and answers the number of the node behind it: the
 // part of the area behind a piece is lent to the writer of the next one. A node is written only where there is room for it, so that on an
-// empty area the same calls only count.
+// empty area the same calls only count. A piece's first number and its area are two parameters, and no struct: the area is lent on in parts, and
+// the numbers go on where it does not.
 #![tactic(auto)]
 
 ghost use Rattle.std.specs.Prelude.{◌≡◌, List, [], ◌∷◌, ◌≤◌, ◌<◌, length};
@@ -20,7 +21,8 @@ use model::{Comparison, Connective, Kind, Node, Role, Roles};
 // A form above so many nodes is too large.
 pub const LIMIT: u32 = 65536;
 
-// The number that a kind has in a node.
+// The number that a kind has in a node. (A function and no `From`, since the type is another crate's, and no `as`, since some kinds hold an
+// operation.)
 pub fn number(kind: Kind) -> u32
     ensures { result ≡ number_of kind }
 {
@@ -172,6 +174,7 @@ fn tree_at(
     requires expression { Expression (tree p.now given.now n) }
     ensures { Emitted (emit_tree current.now (tree p.now given.now n) at) at out.old out.new result }
 {
+    // (As `put_node`.)
     if LIMIT < at {
         return at;
     }

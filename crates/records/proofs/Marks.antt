@@ -4,7 +4,7 @@ use native.Mathlib.Omega.{arith}
 use mathlib.Core.Path.{◌≡◌, refl, sym, ap, ◌∙◌}
 use mathlib.Core.Bool.{Bool, true, false}
 use mathlib.Core.List.{List, [], ◌∷◌}
-use borrow.Author.Tests.{eqb-true, le-leb, lt-leb, leb-true, leb-false}
+use borrow.Author.Tests.{eqb-true, lt-leb, leb-true, leb-false}
 use lib.Dec.{eqb, leb}
 use lib.ListN.{length, get_or}
 use Rattle.std.specs.Prelude.{if◌then◌else◌, Some}
@@ -69,10 +69,6 @@ module _ (file : List ℕ) (at : ℕ) where
     pub cut : (n : ℕ) → n ≡ bytes g → at ≤ length file → length file - at < n → false ≡ stands file g at
     unfolding stands
     cut n e h k = rw (lt-leb (at + bytes g) (length file) (omega arith))
-
-    pub not_cut : (n : ℕ) → n ≡ bytes g → at ≤ length file → n ≤ length file - at → (b : Bool) → b ≡ marked file at g → b ≡ stands file g at
-    unfolding stands
-    not_cut n e h k b d = rw (le-leb (at + bytes g) (length file) (omega arith)) d
 
     pub stands_parts : stands file g at ≡ true → (at + bytes g ≤ length file) × (marked file at g ≡ true)
     unfolding stands

@@ -61,7 +61,8 @@ fn stands(file: &[u8], g: Group, at: usize) -> bool
     file.len() - at >= bytes(g) && file[at..].starts_with(&mark(g))
 }
 
-// The records of a group that stand one after the other: where the first begins, how many there are, where the last ends.
+// The records of a group that stand one after the other: where the first begins, how many there are, where the last ends. (Places, and no part
+// of the file: a group says how they are read.)
 #[derive(Clone, Copy)]
 pub struct Run {
     pub at: usize,

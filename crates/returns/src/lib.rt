@@ -79,6 +79,7 @@ impl Told for Form {
     }
 }
 
+// (Three numbers, as the calls for C lend them.)
 pub fn answer<T: Told>(
     answer: Result<T, Refusal>,
     first: &mut u64,

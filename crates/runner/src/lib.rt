@@ -50,7 +50,7 @@ fn check_start<'a>(
     Ok(p)
 }
 
-// Where the three words stand that Lookup answers.
+// Where the three words stand that Lookup answers. (Each call has the slices of document 01, as they are lent, and no struct of them.)
 #[tactic(auto, using(crate::proofs::Answered::lookup_found))]
 pub fn lookup_part(pipeline: &[u32], rules: &[u32], packet: &[u32], table: u32) -> Part
     ensures value { result ≡ lookup pipeline.now rules.now packet.now table }

@@ -33,7 +33,7 @@ use Rattle.values.proofs.Others.{Skips}
 use Rattle.states.specs.declared.State.{State as Held}
 use Rattle.states.specs.declared.Ending.{Ending}
 use Rattle.states.specs.declared.End.{End}
-use Rattle.states.specs.States.{packet_in, held, state_in, outcome_by, end_of, Stands, EndsAs, RefusedAs, Answers, side_of, side_at}
+use Rattle.states.specs.States.{packet_in, held, state_in, outcome_by, end_of, Stands, EndsAs, RefusedAs, Answers, side_of, side_at, ends_by}
 use Rattle.runs.specs.Runnable.{on_apply, run_of, Runnable}
 use Rattle.states.proofs.Leaves.{next-entry}
 use Rattle.states.proofs.Actions.{hit_there}
@@ -164,26 +164,27 @@ module _ (p r : List ℕ) (scope : Scope) (n : ℕ) (node : Node) (kind : Kind) 
         unfolding run
         assign_gives e g = rw (is here _ e) (rw data_is at (g choices))
 
+      module _ (given : List ℕ) (data_is : given ≡ given_in scope) (x : Result End Refusal) where
         abbrev holds : Bool
         holds = truth_of (bits_in (widths p) (packet_in p s)) (as_test (tree p given a))
 
         abbrev Tests : Ending → Type 0
-        Tests how = (choices : List ℕ) → EndsAs p choices x (outcome_by (if holds then Ending.Passed else how) (state_in p choices s))
+        Tests how = x ≡ ends_by s (if holds then Ok Ending.Passed else Ok how)
 
         tested_gives : (k : Kind) (how : Ending) → run (widths p) (on_apply (in_body scope) p r) (as_statement (tree_is here k)) (state_in p choices s)
-            ≡ (if holds then outcome_by Ending.Passed (state_in p choices s) else outcome_by how (state_in p choices s)) → kind ≡ k → Tests how → Gives x
-        tested_gives k how d e g = rw (is here k e, d) (rw (told_by holds) at (g choices))
+            ≡ (if holds then outcome_by Ending.Passed (state_in p choices s) else outcome_by how (state_in p choices s)) → kind ≡ k → Tests how → GivesAll x
+        tested_gives k how d e g = rw (g, is here k e, d) (told_by holds)
           where
-            told_by : (test : Bool) → outcome_by (if test then Ending.Passed else how) (state_in p choices s)
-                ≡ (if test then outcome_by Ending.Passed (state_in p choices s) else outcome_by how (state_in p choices s))
-            told_by true = refl
-            told_by false = refl
+            told_by : (test : Bool) → Answers p choices (ends_by s (if test then Ok Ending.Passed else Ok how))
+                (if test then outcome_by Ending.Passed (state_in p choices s) else outcome_by how (state_in p choices s))
+            told_by true = record { outcome = refl; within = within }
+            told_by false = record { outcome = refl; within = within }
 
-        pub assume_gives : kind ≡ Kind.Assume → Tests (Ending.Blocked n) → Gives x
+        pub assume_gives : kind ≡ Kind.Assume → Tests (Ending.Blocked n) → GivesAll x
         unfolding run
         assume_gives = tested_gives Kind.Assume (Ending.Blocked n) (rw data_is)
 
-        pub assert_gives : kind ≡ Kind.Assert → Tests (Ending.Failed n) → Gives x
+        pub assert_gives : kind ≡ Kind.Assert → Tests (Ending.Failed n) → GivesAll x
         unfolding run
         assert_gives = tested_gives Kind.Assert (Ending.Failed n) (rw data_is)
 

@@ -29,8 +29,8 @@ fn run_at(p: &Program, choices: &[u32], scope: Scope, s: State, n: usize) -> Res
     match nodes::kind_in(node.kind) {
         Kind::Assign => Ok(assign(pipeline, &given, s, a, b)),
         Kind::Havoc => havoc(pipeline, choices, s, a),
-        Kind::Assume => Ok(tested(pipeline, &given, s, a, Ending::Blocked(n))),
-        Kind::Assert => Ok(tested(pipeline, &given, s, a, Ending::Failed(n))),
+        Kind::Assume => tested(pipeline, &given, s, a, Ok(Ending::Blocked(n))),
+        Kind::Assert => tested(pipeline, &given, s, a, Ok(Ending::Failed(n))),
         Kind::Sequence => {
             let e = run_at(p, choices, scope, s, a)?;
             match e.how {
@@ -73,5 +73,5 @@ pub fn run_whole(p: &Program, packet: &[u32], choices: &[u32]) -> Result<End, Re
     ensures { Answers p.now.pipeline choices.now result (pipeline_run p.now.pipeline p.now.rules packet.now choices.now) }
 {
     let root = p.pipeline.root() as usize;
-    run_at(p, choices, Scope::Program, start(packet), root)
+    run_at(p, choices, Scope::Program([0; 2]), start(packet), root)
 }

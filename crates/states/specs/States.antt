@@ -30,6 +30,11 @@ outcome_by (Ending.Failed n) s = failed n s
 abbrev pub end_of : Held → Ending → End
 end_of s how = record { state = s; how = how }
 
+-- how a statement ends that goes on, ends or is refused where it stands
+abbrev pub ends_by : Held → Result Ending Refusal → Result End Refusal
+ends_by s (Ok how) = Ok (end_of s how)
+ends_by s (Err why) = Err why
+
 -- what a run relies on of the block and of where it stands
 pub record Stands (p : List ℕ) (s : Held) : Type 0 where
   pub ready : Ready p (packet_in p s)

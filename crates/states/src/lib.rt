@@ -5,24 +5,25 @@ ghost use Rattle.std.specs.Prelude.{◌≡◌, List, ℕ, Ok, ◌+◌, ◌≤◌
 ghost use Rattle.model.specs.Blocks.{F, N, T, widths};
 ghost use Rattle.model.specs.Trees.{Stmt, as_value, as_test, tree, truth_of, bits_in};
 ghost use Rattle.model.specs.Tables.{hit, call_of};
-ghost use Rattle.model.specs.Good.{GoodTest, Good};
+ghost use Rattle.model.specs.Good.{GoodTest, Good, Within};
 ghost use Rattle.model.specs.Runs.{run, no_apply};
 ghost use Rattle.actions.specs.Scopes.{Calls};
-ghost use Rattle.states.specs.States.{packet_in, state_in, outcome_by, Stands, EndsAs, Answers, Next, side_at, held, end_of};
+ghost use Rattle.states.specs.States.{packet_in, state_in, outcome_by, Stands, EndsAs, Answers, Next, side_at, held, end_of, ends_by};
 
 use actions::{Action, action_of};
 use blocks::{Pipeline, Program};
 use model::Refusal;
 
-// Where a run stands: the packet in the first F words, and how many entries were used. It holds no pipeline that its packet fits, since a
-// state that is carried by value would bring the pipeline's lifetime into every clause about it: `Stands` says that the two fit.
+// Where a run stands: the packet in the first F words (of an array, since memory is fixed), and how many entries were used. It holds no
+// pipeline that its packet fits, since a state that is carried by value would bring the pipeline's lifetime into every clause about it:
+// `Stands` says that the two fit.
 #[derive(Clone, Copy)]
 pub struct State {
     pub packet: [u32; 32],
     pub used: usize,
 }
 
-// How a run ends: blocked and failed at a node.
+// How a run ends: blocked and failed at a node. (Not `model::Ran`, which has the entries used beside: here the state has them.)
 #[derive(Clone, Copy)]
 pub enum Ending {
     Passed,
@@ -37,7 +38,7 @@ pub struct End {
 }
 
 impl State {
-    // The packet's values.
+    // The packet's values. (That the fields are few is a clause, as in `variables::Vars`.)
     pub fn values(&self, p: &Pipeline) -> &[u32]
         requires { F p.now ≤ 32 }
         ensures { result.now ≡ packet_in p.now self.now }
@@ -91,19 +92,26 @@ pub fn assign(p: &Pipeline, given: &[u32; 2], s: State, f: usize, v: usize) -> E
     passed(stored(s, f, x.number))
 }
 
-// The run goes on where the test of node t holds, and else ends so.
-pub fn tested(p: &Pipeline, given: &[u32; 2], s: State, t: usize, how: Ending) -> End
+// The run goes on where the test of node t holds, and else ends so, or is refused.
+pub fn tested(
+    p: &Pipeline,
+    given: &[u32; 2],
+    s: State,
+    t: usize,
+    otherwise: Result<Ending, Refusal>,
+) -> Result<End, Refusal>
     requires stands { Stands p.now s }
     requires t_bound { t < N p.now }
     requires good_test { GoodTest (widths p.now) (as_test (tree p.now given.now t)) }
-    ensures { (choices : List ℕ) → EndsAs p.now choices result
-        (outcome_by (if truth_of (bits_in (widths p.now) (packet_in p.now s)) (as_test (tree p.now given.now t)) then Ending.Passed else how)
-        (state_in p.now choices s)) }
+    ensures value { result ≡ ends_by s (if truth_of (bits_in (widths p.now) (packet_in p.now s)) (as_test (tree p.now given.now t)) then Ok Ending.Passed else otherwise) }
+    ensures within { Within (widths p.now) (packet_in p.now s) }
 {
     if values::truth_at(p, given, s.values(p), t) {
-        passed(s)
-    } else {
-        End { state: s, how }
+        return Ok(passed(s));
+    }
+    match otherwise {
+        Ok(how) => Ok(End { state: s, how }),
+        Err(why) => Err(why),
     }
 }
 

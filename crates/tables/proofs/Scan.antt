@@ -74,5 +74,5 @@ module _ (r : List ℕ) (t : ℕ) (test : ℕ → Bool) where
   pub found_settled : (best : Option ℕ) (i : ℕ) → i ≤ R r → best ≡ first_to r t test i → Settled r best → best ≡ first_that test (tried r t)
   found_settled (Some j) i h e s =
       let below = found_below i j (sym e) in
-      found_last (Some j) (R r) refl (all_pass (Some j) i (R r) h e (λ k l m. rw (s k (omega arith) m)))
+      found_last (Some j) (R r) refl (all_pass (Some j) i (R r) h e (λ k l m. rw (s.1 k (omega arith) m)))
   found_settled None i h e s = absurd s

@@ -24,5 +24,5 @@ precedes before i None = true
 
 -- what is found is a rule, and none behind it is tried before it
 abbrev pub Settled : List ℕ → Option ℕ → Type 0
-Settled r (Some i) = (j : ℕ) → i < j → j < R r → tried_before r j i ≡ false
+Settled r (Some i) = (i < R r) × ((j : ℕ) → i < j → j < R r → tried_before r j i ≡ false)
 Settled r None = ⊥

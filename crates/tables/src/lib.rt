@@ -58,6 +58,7 @@ fn first_after(r: &Rules, after: Option<usize>) -> usize
 
 // Where a scan may end: the best is a rule, and none behind it is tried before it. An order that says less can answer false.
 fn settled(r: &Rules, best: Option<usize>) -> bool
+    requires { (j : ℕ) → best ≡ Some j → j < R r.now }
     ensures { result ≡ true → Settled r.now best }
 {
     best.is_some()

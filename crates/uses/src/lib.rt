@@ -73,6 +73,7 @@ pub fn first_miscounted(p: &Pipeline) -> Option<usize>
     requires { N p.now ≤ 1024 }
     ensures { result ≡ first_miscounted p.now }
 {
+    // 1,024 places, since memory is fixed and Check lends none.
     let mut counts = [0u8; 1024];
     count_children(p, &mut counts);
     count_bodies(p, &mut counts);
@@ -174,6 +175,7 @@ pub fn first_misplaced(p: &Pipeline) -> Option<usize>
     ensures { result ≡ first_misplaced p.now }
 {
     let tree = Tree { pipeline: p };
+    // As above.
     let mut owners = [None; 1024];
     tree.own_bodies(&mut owners);
     tree.own_children(&mut owners);

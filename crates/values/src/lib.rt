@@ -13,6 +13,7 @@ use bits::Op;
 use blocks::{Pipeline, word_in};
 use model::{Bits, Comparison, Connective, Kind};
 
+// (The literal says it too; it is public, and the definition's name.)
 pub fn of_width(width: u32, number: u32) -> Bits
     ensures { result ≡ of_width width number }
 {
@@ -70,6 +71,8 @@ pub fn connected(o: Connective, x: bool, y: bool) -> bool
     }
 }
 
+// `Ready` stands in three contracts, and the three references go together: a struct of them would make each clause say `r.now.p.now` and
+// `r.now.given.now`, so it is no plainer.
 fn field_bits(p: &Pipeline, packet: &[u32], i: u32) -> Bits
     requires ready { Ready p.now packet.now }
     requires i_in_bounds { i < length (widths p.now) }
@@ -148,8 +151,8 @@ pub fn truth_at(p: &Pipeline, given: &[u32; 2], packet: &[u32], n: usize) -> boo
 
 // The first value of a packet or of a valuation that doesn't fit its width.
 pub fn first_wide(widths: &[u32], numbers: &[u32]) -> Option<usize>
-    requires numbers_len { length numbers.now ≡ length widths.now }
-    requires by_index { (i : ℕ) → word widths.now i ≤ 32 }
+    requires one_each { length numbers.now ≡ length widths.now }
+    requires narrow { (i : ℕ) → word widths.now i ≤ 32 }
     ensures { result ≡ first_not (λ i. fits (word widths.now i) (word numbers.now i)) (length widths.now) }
 {
     places::first_not(|i| bits::fits(widths[i], numbers[i]), widths.len())

@@ -26,6 +26,7 @@ pub struct Vars {
     pub next: u32,
 }
 
+// That the fields are few stands in six contracts: callers have a `Program`, and a type for this alone would be made anew at each call, no plainer.
 impl Vars {
     // The variables of the fields.
     pub fn fields(&self, p: &Pipeline) -> &[u32]
@@ -152,6 +153,7 @@ fn put_equation(at: u32, side: u32, own: u32, joined: u32, nodes: &mut [u32]) ->
     if own == joined {
         return Tied { at, side };
     }
+    // (As `pieces::put_node`.)
     if LIMIT < at {
         return Tied { at, side };
     }
@@ -185,8 +187,8 @@ fn put_choice(
     joined: &[u32],
     nodes: &mut [u32],
 ) -> u32
-    requires lefts_len { length lefts.now ≡ length joined.now }
-    requires rights_len { length rights.now ≡ length joined.now }
+    requires lefts_one_each { length lefts.now ≡ length joined.now }
+    requires rights_one_each { length rights.now ≡ length joined.now }
     ensures { Emitted (choice_nodes lefts.now rights.now joined.now left right at) at
         nodes.old nodes.new result }
 {
@@ -231,7 +233,8 @@ fn put_join(
 }
 
 // What stands behind both sides of a choice: the equations of each, and the choice. Nothing, where the right side went beyond the limit.
-// The left side is not a `Made`: nothing is asked of how many variables it has.
+// The left side is not a `Made`: nothing is asked of how many variables it has. That both sides have ended behind a node is a clause, and no
+// field of `Made`: a form begins at 0.
 pub fn join(
     p: &Pipeline,
     before: Vars,
@@ -249,6 +252,7 @@ pub fn join(
         → field_vars p.now left_vars ≡ l.current → Holds p.now lent widths.old right.vars r
         → Joins p.now lent b l r left right.at nodes.old nodes.new widths.new result }
 {
+    // (As `pieces::put_node`.)
     if LIMIT < right.at {
         return right;
     }
