@@ -1,7 +1,7 @@
 #!/usr/bin/env bash
 # Builds the archive for C, links tests/driver.c with it, and runs that on the vectors, on the rows of Load, on Check's limits, on the
-# rows of Run, Confirm and Lookup and on those of Passify. Two cases of its own are that the driver fails wrong answers, and that C++ takes
-# the header.
+# rows of Run, Confirm and Lookup and on those of Passify. Three cases of its own are that the driver fails wrong answers, that C++ takes
+# the header, and that the archive asks nothing of a C library but memcpy and memset.
 # The archive is for x86-64: on another processor the driver is compiled across and run by an emulator. Either way it has a stack of 1 MiB
 # and no more, half of what the header asks for.
 # The last line is 'N passed, M failed'.
@@ -10,9 +10,11 @@ cd "$(dirname "$0")/.."
 
 work=target/library
 compiler=(gcc)
+symbols=(nm)
 limited=(bash -c 'ulimit -s 1024 && exec "$@"' limited)
 if [ "$(uname -m)" != x86_64 ]; then
     compiler=(x86_64-linux-gnu-gcc -static)
+    symbols=(x86_64-linux-gnu-nm)
     limited=(qemu-x86_64 -s 1048576)
 fi
 
@@ -73,6 +75,12 @@ else
     echo "the driver passes a wrong answer: $(tail -n 1 "$work/wrong")"
 fi
 if g++ -Wall -Wextra -Werror -fsyntax-only -x c++ include/mpendozilu.h; then own=$((own + 1)); fi
+asked=$("${symbols[@]}" -u crates/capi/out/libcapi.a | awk '$1 == "U" { print $2 }' | sort -u | paste -sd ' ')
+if [ "$asked" = 'memcpy memset' ]; then
+    own=$((own + 1))
+else
+    echo "the archive asks for other names than memcpy and memset: $asked"
+fi
 
 status=0
 "${limited[@]}" "$work/driver" tests/vectors/document-01.txt "${rows[@]}" >"$work/log" || status=1
@@ -80,7 +88,7 @@ cat "$work/log"
 line=$(tail -n 1 "$work/log")
 passed=${line%% passed*}
 failed=${line##*, }
-failed=$((${failed%% failed} + 2 - own))
+failed=$((${failed%% failed} + 3 - own))
 if [ "$status" -ne 0 ] && [ "$failed" -eq 0 ]; then failed=1; fi
 echo "$((passed + own)) passed, $failed failed"
 [ "$status" -eq 0 ] && [ "$failed" -eq 0 ]

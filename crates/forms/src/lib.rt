@@ -200,9 +200,12 @@ pub fn statement_at(
     ensures { Writes p.now.pipeline (form_of p.now.pipeline p.now.rules scope n) from
         nodes.old nodes.new widths.old widths.new result }
 {
-    // (As `pieces::put_node`.)
+    // (As `pieces::put_node`. Field by field, since a copy of the whole would call C's `memmove`.)
     if LIMIT < from.at {
-        return from;
+        return Made {
+            at: from.at,
+            vars: from.vars,
+        };
     }
     let read = p.pipeline.node(n);
     let a = read.a as usize;

@@ -1,5 +1,5 @@
 -- Laws of pieces that are written one after the other: nothing, a piece behind a piece, and a piece above the limit. Assumes nothing.
-use Prim.Native.Nat.{ℕ, ◌+◌, ◌-◌, ◌≤◌, ◌<◌}
+use Prim.Native.Nat.{ℕ, ◌+◌, ◌*◌, ◌-◌, ◌≤◌, ◌<◌}
 use native.Mathlib.Decide.{dec_le}
 use native.Mathlib.Numerals.{add-one}
 use native.Mathlib.Nat.{add-zero}
@@ -7,7 +7,7 @@ use native.Mathlib.Omega.{arith}
 use mathlib.Core.Path.{◌≡◌, refl, ap, sym, subst, ◌∙◌}
 use mathlib.Core.List.{List, [], ◌∷◌, ◌++◌, append_assoc, append-nil}
 use lib.ListN.{get_or, length, take, drop, length-append, length-take, length-drop, drop_of_length-le}
-use lib.Seq.{take-suc, take_all, take_at, drop_at, drop-drop}
+use lib.Seq.{length-take-le, take-suc, take_all, take_at, drop_at, drop-drop}
 use Rattle.model.specs.Blocks.{words}
 use Rattle.model.specs.Emit.{Piece, one, two, past, form_limit}
 use Rattle.model.specs.Calls.{over}
@@ -211,6 +211,29 @@ pub put-node : (n : Node) {before after : List ℕ} {at : ℕ} → (4 ≤ length
     → at ≤ form_limit → Emitted (n ∷ []) at before after (at + 1)
 unfolding words
 put-node n put h = record { onward = omega arith; exact = λ k. omega arith; large = λ k. omega arith; wrote = λ k l. put l }
+
+-- nodes one behind the other: the words of the first i are written, and then the next one's
+pub put-next : (nodes : List Node) {i : ℕ} (area : List ℕ) {mid ys : List ℕ} {n : Node} (d : Node) → i < length nodes → mid ≡ over (words (take i nodes)) area
+    → 4 * i ≤ length mid → n ≡ get_or nodes i d → ys ≡ over (n.kind ∷ n.a ∷ n.b ∷ n.c ∷ []) (lent (4 * i) mid)
+    → back (4 * i) mid ys ≡ over (words (take (i + 1) nodes)) area
+unfolding words
+put-next nodes {i} area {mid} {ys} {n} d h m room is y =
+    let first = take i nodes in
+    let long : 4 * i ≡ length (words first) = omega (arith, length-words first, length-take-le i nodes (omega arith)) in
+    rw (add-one i, take-suc nodes i d h, ← is, words_append first (n ∷ []))
+    (put-behind (words first) (n.kind ∷ n.a ∷ n.b ∷ n.c ∷ []) area mid ys (4 * i) m long room y)
+
+-- nodes, put where there is room for all of them, and counted as far as the limit and one more
+pub put-all : (nodes : List Node) {before after : List ℕ} {at count : ℕ} → (length (words nodes) ≤ length before → after ≡ over (words nodes) before)
+    → at ≤ form_limit → (length nodes ≤ form_limit → count ≡ length nodes) → (form_limit < length nodes → form_limit < count)
+    → Emitted nodes at before after (at + count)
+put-all nodes {before} {after} {at} {count} put h few many =
+    record {
+      onward = omega arith;
+      exact = λ k. let c = few (omega arith) in omega arith;
+      large = λ k. elim (dec_le (length nodes) form_limit) [ yes l ↦ let c = few l in omega arith | no l ↦ let c = many (omega arith) in omega arith ];
+      wrote = λ k l. put l;
+    }
 
 -- a node behind those of a list before it
 pub put-more : (nodes : List Node) {i at to to' : ℕ} {area mid after : List ℕ} {n : Node} (d : Node) → i < length nodes → Emitted (take i nodes) at area mid to

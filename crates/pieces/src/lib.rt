@@ -5,7 +5,7 @@
 #![tactic(auto)]
 
 ghost use Rattle.std.specs.Prelude.{◌≡◌, List, [], ◌∷◌, ◌≤◌, ◌<◌, length};
-ghost use Rattle.model.specs.Blocks.{N, node};
+ghost use Rattle.model.specs.Blocks.{N, node, words};
 ghost use Rattle.model.specs.Nodes.{kinds, kind_in, number_of};
 ghost use Rattle.model.specs.Trees.{tree};
 ghost use Rattle.model.specs.Calls.{over};
@@ -108,15 +108,28 @@ pub fn node_behind(from: u32, at: u32, n: Node, out: &mut [u32]) -> u32
     put_node(at, n, &mut out[s..])
 }
 
-// Nodes one behind the other, of which the first has the number `at`.
+// Nodes one behind the other, where there is room for all of them.
+fn write_nodes(nodes: &[Node], out: &mut [u32])
+    ensures { length (words nodes.now) ≤ length out.old → out.new ≡ over (words nodes.now) out.old }
+{
+    if nodes.len() <= out.len() / blocks::NODE {
+        for i in 0..nodes.len() {
+            let n = nodes[i];
+            areas::put(&[n.kind, n.a, n.b, n.c], &mut out[blocks::NODE * i..]);
+        }
+    }
+}
+
+// Nodes one behind the other, of which the first has the number `at`. The limit and the room are looked at once for all of them, since a join
+// has many such lists.
 pub fn put_nodes(at: u32, nodes: &[Node], out: &mut [u32]) -> u32
     ensures { Emitted nodes.now at out.old out.new result }
 {
-    let mut to = at;
-    for n in nodes {
-        to = node_behind(at, to, *n, out);
+    if LIMIT < at {
+        return at;
     }
-    to
+    write_nodes(nodes, out);
+    at + nodes.len().min(LIMIT as usize + 1) as u32
 }
 
 // A node of the pipeline as the passive form has it: a field by its current variable, a parameter as a constant.

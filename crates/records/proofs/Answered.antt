@@ -6,7 +6,7 @@ use mathlib.Core.List.{List, [], ◌∷◌}
 use borrow.Author.Tests.{lt-leb, le-leb}
 use lib.Dec.{leb}
 use lib.ListN.{length}
-use Rattle.std.specs.Prelude.{Ok, Err}
+use Rattle.std.specs.Prelude.{Result, Ok, Err}
 use Rattle.model.specs.Blocks.{size}
 use Rattle.model.specs.Files.{Record, whole, fault, held}
 use Rattle.model.specs.Answers.{done, refused, after, refusal_of}
@@ -69,6 +69,9 @@ module _ (file pipeline rules : List ℕ) where
 
   pub loads_fault : (s : Runs) (why : Refusal) → Ends file s (Err why) → Loads file pipeline rules (Err why) pipeline rules
   loads_fault s why (at, is, h) = rw is (refuses 1 at (gives_fault (length pipeline) (length rules) file at h) (Refusal.File at) refl)
+
+  pub whole-ends : (s : Runs) (x : Result (Unit {0}) Refusal) → Ends file s x → x ≡ Ok tt → Whole file s
+  whole-ends s x h d = rw d at h
 
   module _ (s : Runs) (w : Whole file s) where
     abbrev blocks : TwoBlocks

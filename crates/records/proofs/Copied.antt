@@ -35,6 +35,9 @@ module _ (area : List ℕ) (to : ℕ) where
 pub room_for : (to k i n room : ℕ) → i < n → to + k * n ≤ room → to + k * i + k ≤ room
 room_for to k i n room h l = omega (arith, mul-le-mul_left k h)
 
+pub one_inside : (file : List ℕ) (run : Run) (step i : ℕ) → i < run.count → run.at + step * run.count ≤ length file → run.at + step * i + step ≤ length file
+one_inside file run step i h l = room_for run.at step i run.count (length file) h l
+
 pub over-onto : (ws area : List ℕ) → over ws area ≡ onto 0 ws area
 over-onto ws area = rw zero-add
 

@@ -4,7 +4,7 @@ use native.Mathlib.Omega.{arith}
 use mathlib.Core.Path.{◌≡◌, refl, sym, ap, ◌∙◌}
 use mathlib.Core.Bool.{Bool, true, false}
 use mathlib.Core.List.{List}
-use borrow.Author.Tests.{le-ltb, le-leb, lt-leb, leb-true}
+use borrow.Author.Tests.{lt-ltb, le-ltb, le-leb, lt-leb, leb-true}
 use lib.Dec.{ltb, leb}
 use lib.ListN.{length}
 use Rattle.std.specs.Prelude.{if◌then◌else◌, Err}
@@ -19,6 +19,9 @@ use Rattle.records.proofs.Records.{found_none, found_more, found_whole}
 -- the smaller of a place and the limit
 abbrev first : ℕ → ℕ
 first at = if ltb file_limit at then file_limit else at
+
+pub at_limit : (at : ℕ) → file_limit < at → file_limit ≡ first at
+at_limit at h = rw (lt-ltb file_limit at h)
 
 pub below_limit : (at : ℕ) → at ≤ file_limit → at ≡ first at
 below_limit at h = rw (le-ltb file_limit at h)

@@ -1,18 +1,32 @@
 -- Marks and sizes of groups, and the record that stands at a place. Assumes nothing.
-use Prim.Native.Nat.{ℕ, ◌+◌, ◌-◌, ◌≤◌, ◌<◌}
+use Prim.Native.Nat.{ℕ, ◌+◌, ◌*◌, ◌-◌, ◌≤◌, ◌<◌}
+use native.Mathlib.Nat.{mul-le-mul}
 use native.Mathlib.Omega.{arith}
 use mathlib.Core.Path.{◌≡◌, refl, sym, ap, ◌∙◌}
 use mathlib.Core.Bool.{Bool, true, false}
 use mathlib.Core.List.{List, [], ◌∷◌}
-use borrow.Author.Tests.{eqb-true, lt-leb, leb-true, leb-false}
+use borrow.Author.Tests.{eq-eqb, ne_eqb, eqb-true, le-leb, lt-leb, leb-true, leb-false}
 use lib.Dec.{eqb, leb}
 use lib.ListN.{length, get_or}
 use Rattle.std.specs.Prelude.{if◌then◌else◌, Some}
 use Rattle.model.specs.Lists.{word}
-use Rattle.model.specs.Files.{turn, mark, groups, bytes, marked, marked_by}
+use Rattle.model.specs.Blocks.{size}
+use Rattle.model.specs.Files.{file_limit, turn, mark, groups, bytes, marked, marked_by}
 use Rattle.model.specs.declared.Group.{Group}
 use Rattle.model.proofs.Booleans.{both_true, and_true}
 use Rattle.records.specs.Runs.{stands}
+
+-- a record has few words, and so have all records of a file
+pub few_words : (g : Group) → size g ≤ 64
+few_words Group.Field = omega arith
+few_words Group.Node = omega arith
+few_words Group.Action = omega arith
+few_words Group.Table = omega arith
+few_words Group.Rule = omega arith
+few_words Group.Root = omega arith
+
+pub few_in_all : (g : Group) (words count : ℕ) → words ≡ size g → count ≤ file_limit → words * count ≤ 64 * file_limit
+few_in_all g words count e h = rw e (mul-le-mul (few_words g) h)
 
 -- the root comes last
 pub last_turn : (g : Group) → turn g ≤ turn Group.Root
@@ -39,6 +53,14 @@ same-group g h e = sym (there g) ∙ ap back e ∙ there h
     there Group.Root = refl
 
 module _ (file : List ℕ) (at : ℕ) where
+  -- the two bytes of a mark, one after the other
+  module _ (g : Group) (m : List ℕ) (e : m ≡ mark g) where
+    pub first_alike : word file at ≡ get_or m 0 0 → eqb (word file (at + 1)) (get_or m 1 0) ≡ marked file at g
+    first_alike h = rw (← e, eq-eqb (word file at) (get_or m 0 0) h)
+
+    pub first_other : (word file at ≡ get_or m 0 0 → ⊥) → eqb (word file at) (get_or m 0 0) ≡ marked file at g
+    first_other h = rw (← e, ne_eqb (word file at) (get_or m 0 0) h)
+
   -- a group whose mark stands there is the one that is found, and the one that is found has its mark there
   pub marked_found : (g : Group) → marked file at g ≡ true → marked_by file at groups ≡ Some g
   unfolding marked_by
@@ -69,6 +91,10 @@ module _ (file : List ℕ) (at : ℕ) where
     pub cut : (n : ℕ) → n ≡ bytes g → at ≤ length file → length file - at < n → false ≡ stands file g at
     unfolding stands
     cut n e h k = rw (lt-leb (at + bytes g) (length file) (omega arith))
+
+    pub not_cut : (n : ℕ) → n ≡ bytes g → at ≤ length file → n ≤ length file - at → (b : Bool) → b ≡ marked file at g → b ≡ stands file g at
+    unfolding stands
+    not_cut n e h k b d = rw (le-leb (at + bytes g) (length file) (omega arith)) d
 
     pub stands_parts : stands file g at ≡ true → (at + bytes g ≤ length file) × (marked file at g ≡ true)
     unfolding stands

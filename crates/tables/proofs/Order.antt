@@ -12,10 +12,12 @@ use lib.ListN.{length}
 use borrow.Author.Tests.{lt-ltb, le-ltb, ltb-true, ltb-false}
 use Rattle.std.specs.Prelude.{if◌then◌else◌, Option, Some, None}
 use Rattle.model.specs.Lists.{each, those, times, among}
+use Rattle.model.specs.Blocks.{R}
 use Rattle.model.specs.Tables.{tried_before, placed, ordered, first_that}
 use Rattle.model.proofs.Every.{All, all-each, all_placed, all-ordered, all-those, all_with, among_here, among_there}
 use Rattle.model.proofs.Hits.{first-has}
-use Rattle.tables.specs.Scan.{ordered_to, precedes}
+use Rattle.tables.specs.Next.{comes_after}
+use Rattle.tables.specs.Scan.{ordered_to, precedes, Settled}
 
 -- Nothing is before itself, of two that differ exactly one is before the other, and what is before the first of them is before the second.
 pub record Order (before : ℕ → ℕ → Bool) : Type 0 where
@@ -35,6 +37,15 @@ tried_order r = record {
     go : (i j : ℕ) → (i ≡ j → ⊥) → (b : Bool) → ltb i j ≡ b → ltb j i ≡ not b
     go i j d true e = le-ltb j i (omega (arith, ltb-true i j e))
     go i j d false e = lt-ltb j i (omega (arith, ltb-false i j e))
+
+module _ (r : List ℕ) (count : ℕ) (e : count ≡ R r) where
+  -- up to a rule none comes after it
+  pub none_after : (after : ℕ) → after < count → (j : ℕ) → j < after + 1 → comes_after r after j ≡ false
+  none_after after h j k = rw (lt-ltb after (R r) (omega (arith, e))) (le-ltb after j (omega arith))
+
+  -- and none behind it is tried before it
+  pub settles : (best : ℕ) → best < count → Settled r (Some best)
+  settles best h = (omega (arith, e), λ j k l. le-ltb j best (omega arith))
 
 -- ---- lists in an order
 

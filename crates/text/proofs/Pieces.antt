@@ -1,15 +1,19 @@
--- A text that is written piece by piece: nothing, and one piece behind another. Assumes nothing.
-use Prim.Native.Nat.{ℕ, ◌≤◌}
+-- A text that is written piece by piece: nothing, a byte, and one piece behind another. Assumes nothing.
+use Prim.Native.Nat.{ℕ, ◌+◌, ◌≤◌, ◌<◌}
+use native.Mathlib.Numerals.{add-one}
 use native.Mathlib.Omega.{arith}
 use mathlib.Core.Path.{◌≡◌, refl, sym, ◌∙◌}
-use mathlib.Core.List.{List, [], ◌++◌, append_assoc}
-use lib.ListN.{length, take, drop, length-append, length-drop, take-append-drop}
-use lib.Seq.{length-take-le, take_at, drop_at, drop-drop}
+use mathlib.Core.List.{List, [], ◌∷◌, ◌++◌, append_assoc}
+use lib.ListN.{length, take, drop, set, length-append, length-drop, take-append-drop}
+use lib.Seq.{length-take-le, take_at, drop_at, drop-drop, set_split}
 use Rattle.text.specs.Adds.{Adds, Grows}
 use Rattle.text.specs.declared.Text.{Text}
 
 pub nothing : (at : ℕ) (area : List ℕ) → at ≤ length area → Adds [] at area at area
 nothing at area h = record { ends = omega arith; room = h; bytes = sym (take-append-drop at area) }
+
+pub byte : (b at : ℕ) (area : List ℕ) → at < length area → Adds (b ∷ []) at area (at + 1) (set area at b)
+byte b at area h = record { ends = refl; room = omega arith; bytes = rw (set_split area at b h, add-one) }
 
 module _ {a : List ℕ} {at : ℕ} {x : List ℕ} {m : ℕ} {y : List ℕ} (s : Adds a at x m y) where
   length_text : length (take at x ++ a) ≡ m

@@ -34,7 +34,6 @@ impl<'a> Text<'a> {
     }
 
     // A number in decimal.
-    #[tactic(auto, using(crate::proofs::Decimals::as_printed))]
     pub fn decimal(&mut self, n: u64)
         requires { self.old.end + length (decimal n) ≤ length self.old.area.now }
         ensures { Grows (decimal n) self.old self.new }

@@ -1,0 +1,2 @@
+-- Laws of writing into an area.
+mod Written
