@@ -5,7 +5,8 @@ use mathlib.Core.Bool.{Bool, false, false≢true}
 use mathlib.Core.List.{List, [], ◌∷◌}
 use Rattle.std.specs.Prelude.{Option, Some, None, Result, Ok, Err, OnOk}
 use Rattle.model.specs.Lists.{first_not}
-use Rattle.model.specs.Refusals.{Row, judge, check_rows, pipeline_sorts, field_row, node_row, action_row, table_row, root_row, use_row, place_row, rule_row, uses, under_each}
+use Rattle.model.proofs.Passing.{check_accepts}
+use Rattle.model.specs.Refusals.{Row, judge, check_rows, pipeline_sorts, node_row, action_row, use_row, uses}
 use Rattle.model.specs.Calls.{check, Checks}
 use Rattle.model.specs.Demands.{Accepted}
 use Rattle.model.specs.declared.Refusal.{Refusal}
@@ -13,26 +14,7 @@ use Rattle.model.proofs.First.{first-all}
 use Rattle.model.proofs.Refusals.{Found, found}
 use Rattle.model.proofs.Accepted.{action-fits}
 use Rattle.uses.specs.Owners.{UsedOnce}
-use Rattle.checker.specs.Rows.{Passes, first_in, count_row, Judges, outcome}
-
--- what is left to judge, once the rows before have passed
-pub record Left (p r : List ℕ) (rows : List Row) : Type 0 where
-  pub is : check p r ≡ judge rows
-
--- the rows from 7 on, from 4 on, and from 3 on
-module _ (p r : List ℕ) where
-  abbrev pub from_7 : List Row
-  from_7 = root_row p (pipeline_sorts p) ∷ use_row p (uses p) ∷ place_row p (under_each p) ∷ rule_row p r ∷ []
-
-  abbrev pub from_4 : List Row
-  from_4 = node_row p (pipeline_sorts p) ∷ action_row p (pipeline_sorts p) ∷ table_row p ∷ from_7
-
-  abbrev pub from_3 : List Row
-  from_3 = field_row p ∷ from_4
-
-  pub left-all : Left p r (count_row p r ∷ from_3)
-  unfolding check check_rows
-  left-all = record { is = refl }
+use Rattle.checker.specs.Rows.{Passes, RefusedBy, Judged, first_in, count_row, later_rows, Judges}
 
 none-of : (row : Row) → Passes row → first_in row ≡ None
 none-of row h = go (first_in row) (found row.well row.count)
@@ -52,22 +34,20 @@ pub on-pass : (row : Row) (result : Result (Unit {0}) Refusal) {found : Option �
 on-pass row (Ok _) h e P k = rw (e ∙ none-of row h) at k
 on-pass row (Err x) h e P k = tt
 
-module _ {p r : List ℕ} {row : Row} {rows : List Row} (l : Left p r (row ∷ rows)) where
-  pub goes-on : Passes row → Left p r rows
+-- ---- the rows one after the other
+
+module _ {row : Row} (rows : List Row) where
+  pub refuses : {x : Refusal} → RefusedBy row x → Judged (row ∷ rows) (Err x)
   unfolding judge
-  goes-on h = record { is = l.is ∙ rw (none-of row h) }
+  refuses h = record { answers = rw h.first h.names }
 
-  pub stops : {A : Type 0} {p' r' : List ℕ} {x : Refusal} {result : Result A Refusal} → p ≡ p' → r ≡ r' → Judges row (Err x)
-      → (y : Refusal) × (result ≡ Err y) × (y ≡ x) → Checks p' r' (outcome result)
+  pub passed : {a : Result (Unit {0}) Refusal} → Passes row → Judged rows a → Judged (row ∷ rows) a
   unfolding judge
-  stops s t (i, n, names) (y, out, same) = rw (out, same, ← s, ← t) (record { answers = rw (l.is, n) names })
+  passed h k = record { answers = rw (none-of row h) k.answers }
 
-pub begins : {p r p' r' : List ℕ} → p ≡ p' → r ≡ r' → Passes (count_row p' r') → Left p r (from_3 p r)
-begins {p} {r} {p'} {r'} s t h = rw (s, t) (goes-on (left-all p' r') h)
-
-pub left-none : {p r : List ℕ} → Left p r [] → Accepted p r
+pub all_pass : Judged [] (Ok tt)
 unfolding judge
-left-none l = l.is
+all_pass = record { answers = refl }
 
 -- ---- what a row that has passed says of all its places
 
@@ -82,3 +62,23 @@ module _ (p : List ℕ) where
     parameters = λ i l. (action-fits p i (a.at i l)).1;
     once = u.at;
   }
+
+pub ruleset judged = (refuses, passed, all_pass, tree)
+
+-- ---- the whole table
+
+module _ {p r : List ℕ} where
+  all-rows : {a : Result (Unit {0}) Refusal} → Judged (count_row p r ∷ later_rows p r) a → Checks p r a
+  unfolding check check_rows later_rows
+  all-rows k = record { answers = k.answers }
+
+  pub counts_refuse : {x : Refusal} → RefusedBy (count_row p r) x → Checks p r (Err x)
+  counts_refuse h = all-rows (refuses (later_rows p r) h)
+
+  pub later-judge : {p' r' : List ℕ} {a : Result (Unit {0}) Refusal} → Judged (later_rows p' r') a → p' ≡ p → r' ≡ r → Passes (count_row p r) → Checks p r a
+  later-judge k s t h = all-rows (passed (later_rows p r) h (rw (s, t) at k))
+
+  pub accepts : {p' r' : List ℕ} → Judged (later_rows p r) (Ok tt) → p ≡ p' → r ≡ r' → Passes (count_row p' r') → Accepted p r
+  accepts k s t h = check_accepts p r (later-judge k refl refl (rw (s, t) h))
+
+pub ruleset whole = (counts_refuse, later-judge, accepts)

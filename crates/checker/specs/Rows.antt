@@ -1,8 +1,8 @@
--- What the rows of Check's table that have passed let the later ones rely on. Assumes nothing: these are definitions.
-use Rattle.std.specs.Prelude.{ℕ, ◌<◌, ◌≡◌, true, List, Option, Some, Result, Ok, Err}
+-- What rows of Check's table answer, and what those that have passed let the later ones rely on. Assumes nothing: these are definitions.
+use Rattle.std.specs.Prelude.{ℕ, ◌<◌, ◌≡◌, true, List, [], ◌∷◌, Option, Some, Result, Ok, Err}
 use Rattle.model.specs.Lists.{first_not}
-use Rattle.model.specs.Answers.{refused, refusal_of}
-use Rattle.model.specs.Refusals.{Row, once, counts_well}
+use Rattle.model.specs.Answers.{refused, told, checked, refusal_of}
+use Rattle.model.specs.Refusals.{Row, judge, once, counts_well, pipeline_sorts, uses, under_each, field_row, node_row, action_row, table_row, root_row, use_row, place_row, rule_row}
 use Rattle.model.specs.declared.Refusal.{Refusal}
 
 -- a row that has passed: all is well at each of its places
@@ -17,10 +17,26 @@ first_in row = first_not row.well row.count
 abbrev pub count_row : List ℕ → List ℕ → Row
 count_row p r = once 2 (λ _. counts_well p r) (λ _. 0)
 
--- a row lets the next one judge, or refuses at the first place at which not all is well
+-- a refusal by a row: it is of the first place at which not all is well
+pub record RefusedBy (row : Row) (x : Refusal) : Type 0 where
+  pub at : ℕ
+  pub first : first_in row ≡ Some at
+  pub names : refusal_of x ≡ refused row.number (row.place at)
+
+-- a row lets the next one judge, or refuses
 abbrev pub Judges : Row → Result (Unit {0}) Refusal → Type 0
 Judges row (Ok _) = Passes row
-Judges row (Err x) = (i : ℕ) × (first_in row ≡ Some i) × (refusal_of x ≡ refused row.number (row.place i))
+Judges row (Err x) = RefusedBy row x
+
+-- the first of the rows that refuses gives its refusal, and where none refuses all is well
+pub record Judged (rows : List Row) (answer : Result (Unit {0}) Refusal) : Type 0 where
+  pub answers : checked answer ≡ told (λ _. []) (judge rows)
+
+-- 3 to 10
+unfoldable pub later_rows : List ℕ → List ℕ → List Row
+later_rows p r =
+    let ss = pipeline_sorts p in
+    field_row p ∷ node_row p ss ∷ action_row p ss ∷ table_row p ∷ root_row p ss ∷ use_row p (uses p) ∷ place_row p (under_each p) ∷ rule_row p r ∷ []
 
 -- what Check answers where the blocks are given on a success
 abbrev pub outcome : {A : Type 0} → Result A Refusal → Result (Unit {0}) Refusal

@@ -8,9 +8,10 @@ ghost use Rattle.model.specs.Blocks.{F, N, A as actions, T, R, call_at, paramete
 ghost use Rattle.model.specs.Nodes.{is_width, is_statement};
 ghost use Rattle.model.specs.declared.Refusal.{Refusal};
 ghost use Rattle.model.specs.Answers.{refused, refusal_of};
-ghost use Rattle.model.specs.Refusals.{Row, counts_well, pipeline_sorts, sort_at, well_or_zero, used_or_zero, action_well, call_well, table_well, pair_well, rule_well, field_row, node_row, action_row, table_row, root_row, rule_row};
+ghost use Rattle.model.specs.Refusals.{Row, use_row, place_row, uses, under_each, counts_well, pipeline_sorts, sort_at, well_or_zero, used_or_zero, action_well, call_well, table_well, pair_well, rule_well, field_row, node_row, action_row, table_row, root_row, rule_row};
+ghost use Rattle.uses.specs.Owners.{UsedOnce};
 ghost use Rattle.model.specs.Calls.{Checks};
-ghost use Rattle.checker.specs.Rows.{Passes, first_in, Judges, count_row, outcome};
+ghost use Rattle.checker.specs.Rows.{Passes, first_in, Judges, Judged, count_row, later_rows, outcome};
 
 use blocks::{Pipeline, Program, Rules};
 use model::{Refusal, Stage};
@@ -279,18 +280,33 @@ impl<'a> Tabled<'a> {
     }
 }
 
-// The two blocks, or the refusal of the first row that applies.
-pub fn accept<'a>(pipeline: &'a [u32], rules: &'a [u32]) -> Result<Program<'a>, Refusal>
-    ensures answers { Checks pipeline.now rules.now (outcome result) }
-    ensures blocks { IfOk result (λ a. (a.pipeline ≡ pipeline.now) × (a.rules ≡ rules.now)) }
+// 8
+fn check_uses(l: &Limited) -> Result<(), Refusal>
+    ensures { Judges (use_row l.now.pipeline (uses l.now.pipeline)) result }
 {
-    let limited = check_counts(pipeline, rules)?;
-    let p = &limited.pipeline;
-    let r = Rules::new(rules);
+    let p = &l.pipeline;
+    refused_at(uses::first_miscounted(p), Refusal::Use)
+}
+
+// 9
+fn check_places(l: &Limited) -> Result<(), Refusal>
+    requires { UsedOnce l.now.pipeline }
+    ensures { Judges (place_row l.now.pipeline (under_each l.now.pipeline)) result }
+{
+    let p = &l.pipeline;
+    refused_at(uses::first_misplaced(p), Refusal::Misplaced)
+}
+
+// 3 to 10
+#[tactic(auto, using(crate::proofs::Judged::judged), unfolding(crate::specs::Rows::later_rows))]
+fn check_later(l: &Limited, r: &Rules) -> Result<(), Refusal>
+    ensures { Judged (later_rows l.now.pipeline r.now) result }
+{
+    let p = &l.pipeline;
     check_fields(p)?;
     // 1,024 places, since memory is fixed and Check lends none.
     let mut codes = [Code::malformed(); 1024];
-    check_nodes(&limited, &mut codes)?;
+    check_nodes(l, &mut codes)?;
     let sorted = Sorted {
         pipeline: p,
         codes: &codes[..p.node_count()],
@@ -299,10 +315,21 @@ pub fn accept<'a>(pipeline: &'a [u32], rules: &'a [u32]) -> Result<Program<'a>, 
     let calls = Callable { pipeline: p };
     calls.check_tables()?;
     sorted.check_root()?;
-    refused_at(uses::first_miscounted(p), Refusal::Use)?;
-    refused_at(uses::first_misplaced(p), Refusal::Misplaced)?;
+    check_uses(l)?;
+    check_places(l)?;
     let tables = Tabled { calls };
-    tables.check_rules(&r)?;
+    tables.check_rules(r)
+}
+
+// The two blocks, or the refusal of the first row that applies.
+#[tactic(auto, using(crate::proofs::Judged::whole))]
+pub fn accept<'a>(pipeline: &'a [u32], rules: &'a [u32]) -> Result<Program<'a>, Refusal>
+    ensures answers { Checks pipeline.now rules.now (outcome result) }
+    ensures blocks { IfOk result (λ a. (a.pipeline ≡ pipeline.now) × (a.rules ≡ rules.now)) }
+{
+    let limited = check_counts(pipeline, rules)?;
+    let r = Rules::new(rules);
+    check_later(&limited, &r)?;
     Ok(Program {
         pipeline: limited.pipeline,
         rules: r,

@@ -17,4 +17,4 @@ invariant_of-result c =
     rw c.new.ensures (record { nodes = h.most_nodes; actions = h.most_actions })
 
 pub returns-else-counts_well-clause-judged : goal.returns-else-counts_well-clause-judged
-returns-else-counts_well-clause-judged c = (0, fails-once _ (sym c.counts_well.ensures ∙ c.if-counts_well.false), refl)
+returns-else-counts_well-clause-judged c = record { at = 0; first = fails-once _ (sym c.counts_well.ensures ∙ c.if-counts_well.false); names = refl }
