@@ -1,8 +1,8 @@
 -- What rows of Check's table answer, and what those that have passed let the later ones rely on. Assumes nothing: these are definitions.
-use Rattle.std.specs.Prelude.{ℕ, ◌<◌, ◌≡◌, true, List, [], ◌∷◌, Option, Some, Result, Ok, Err}
+use Rattle.std.specs.Prelude.{ℕ, ◌<◌, ◌≡◌, true, List, [], drop, Option, Some, Result, Ok, Err}
 use Rattle.model.specs.Lists.{first_not}
 use Rattle.model.specs.Answers.{refused, told, checked, refusal_of}
-use Rattle.model.specs.Refusals.{Row, judge, once, counts_well, pipeline_sorts, uses, under_each, field_row, node_row, action_row, table_row, root_row, use_row, place_row, rule_row}
+use Rattle.model.specs.Refusals.{Row, judge, once, counts_well, check_rows}
 use Rattle.model.specs.declared.Refusal.{Refusal}
 
 -- a row that has passed: all is well at each of its places
@@ -32,11 +32,9 @@ Judges row (Err x) = RefusedBy row x
 pub record Judged (rows : List Row) (answer : Result (Unit {0}) Refusal) : Type 0 where
   pub answers : checked answer ≡ told (λ _. []) (judge rows)
 
--- 3 to 10
+-- 3 to 10: all but the first
 unfoldable pub later_rows : List ℕ → List ℕ → List Row
-later_rows p r =
-    let ss = pipeline_sorts p in
-    field_row p ∷ node_row p ss ∷ action_row p ss ∷ table_row p ∷ root_row p ss ∷ use_row p (uses p) ∷ place_row p (under_each p) ∷ rule_row p r ∷ []
+later_rows p r = drop 1 (check_rows p r)
 
 -- what Check answers where the blocks are given on a success
 abbrev pub outcome : {A : Type 0} → Result A Refusal → Result (Unit {0}) Refusal

@@ -298,7 +298,7 @@ fn check_places(l: &Limited) -> Result<(), Refusal>
 }
 
 // 3 to 10
-#[tactic(auto, using(crate::proofs::Judged::judged), unfolding(crate::specs::Rows::later_rows))]
+#[tactic(auto, using(crate::proofs::Judged::judged), unfolding(crate::specs::Rows::later_rows, model::specs::Refusals::check_rows))]
 fn check_later(l: &Limited, r: &Rules) -> Result<(), Refusal>
     ensures { Judged (later_rows l.now.pipeline r.now) result }
 {
